@@ -1,0 +1,41 @@
+-- `sheet::actions::check_actions` meets its contract.
+use borrow.Author.Needs.{needs}
+use native.Mathlib.Omega.{arith}
+use mathlib.Core.Path.{sym, ap, _∙_}
+use borrow.Author.Tests.{not-true, not-false}
+use Rattle.sheet.proofs.CheckSteps.{actions-unsized, actions-passed, actions-faulty}
+use Rattle.sheet.proofs.actions.check_actions.Statement.{statement}
+use Rattle.sheet.proofs.actions.check_actions.Tie as tie
+
+sized-requires : tie.Need-sized-requires
+sized-requires c κs = search needs
+
+returns : tie.Need-returns
+returns c = actions-unsized _ _ (sym (c .before .sized .ensures) ∙ not-true _ (c .if1 .taken))
+
+lowest-faulty-requires : tie.Need-lowest-faulty-requires
+lowest-faulty-requires c κs = search needs
+
+byte-at-requires : tie.Need-byte-at-requires
+byte-at-requires c κs = search needs
+
+cast-t9 : tie.Need-cast-t9
+cast-t9 c = search needs
+
+returns-2 : tie.Need-returns-2
+returns-2 c = actions-passed _ _ (sym (c .before .before .before .before .sized .ensures) ∙ not-false _ (c .before .before .before .if1 .left)) (sym (c .before .before .lowest-faulty .ensures .0) ∙ (c .if2 .taken ∙ c .before .byte-at .ensures .0))
+
+returns-3 : tie.Need-returns-3
+returns-3 c = actions-faulty _ _ _ (sym (c .before .before .before .before .sized .ensures) ∙ not-false _ (c .before .before .before .if1 .left)) (c .before .before .lowest-faulty .ensures .0) (λ e. c .if2 .left (e ∙ sym (c .before .byte-at .ensures .0)))
+
+pub check-actions-spec : {M : Type 1} → statement M
+check-actions-spec =
+    tie.close
+    (tie.spec
+    sized-requires
+    returns
+    lowest-faulty-requires
+    byte-at-requires
+    cast-t9
+    returns-2
+    returns-3)

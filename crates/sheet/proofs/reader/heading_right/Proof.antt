@@ -1,0 +1,21 @@
+-- `sheet::reader::heading_right` meets its contract.
+use borrow.Author.Needs.{needs}
+use mathlib.Core.Path.{sym, ap, _∙_}
+use Rattle.sheet.proofs.SheetSteps.{heading-edition, heading-other}
+use Rattle.sheet.proofs.reader.heading_right.Statement.{statement}
+use Rattle.sheet.proofs.reader.heading_right.Tie as tie
+
+byte-at-requires : tie.Need-byte-at-requires
+byte-at-requires c κs = search needs
+
+byte-at-requires-2 : tie.Need-byte-at-requires-2
+byte-at-requires-2 c κs = search needs
+
+returns : tie.Need-returns
+returns c = rw (c .byte-at2 .ensures .0) (sym (heading-edition _ (sym (c .before .before .byte-at .ensures .0) ∙ c .before .if1 .taken)))
+
+returns-2 : tie.Need-returns-2
+returns-2 c = sym (heading-other _ (λ e. c .if1 .left (c .before .byte-at .ensures .0 ∙ e)))
+
+pub heading-right-spec : {M : Type 1} → statement M
+heading-right-spec = tie.close (tie.spec byte-at-requires byte-at-requires-2 returns returns-2)

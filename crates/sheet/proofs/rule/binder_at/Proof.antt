@@ -1,0 +1,64 @@
+-- `sheet::rule::binder_at` meets its contract. Of the loop: no node below n is binder k.
+use borrow.Author.Needs.{needs}
+use mathlib.Core.Path.{_≡_, refl, sym, ap, _∙_}
+use Prim.Native.Nat.{_-_, _+_, _≤_, _<_}
+use native.Mathlib.Omega.{arith}
+use Rattle.sheet.specs.Bytes.{lowestFrom}
+use Rattle.sheet.specs.Rule.{bindersBefore, binderNode, bindsAt}
+use Rattle.sheet.proofs.Lowest.{search-start, search-here, search-next, search-end}
+use Rattle.sheet.proofs.NodeSteps.{before-none}
+use lib.Dec.{eqb}
+use mathlib.Core.Bool.{_&&_}
+use Prim.Native.Nat.{ℕ}
+use Rattle.sheet.proofs.rule.binder_at.Statement.{statement}
+use Rattle.sheet.proofs.rule.binder_at.Tie as tie
+
+abbrev Inv-loop : tie.InvT-loop
+Inv-loop r k count binders₀ n₀ binders n = (n ≤ count) × (binders ≡ bindersBefore r n) × (binders ≤ n) × (lowestFrom (bindsAt r k) (count - n) n ≡ binderNode r k)
+
+abbrev μ-loop : tie.MeasureT-loop
+μ-loop r k count binders₀ n₀ binders n = count - n
+
+byte-at-requires : tie.Need-byte-at-requires Inv-loop μ-loop
+byte-at-requires c κs = search needs
+
+loop-holds : tie.Need-loop-holds Inv-loop μ-loop
+unfolding binderNode
+loop-holds c = (omega arith, before-none _ 0, omega arith, search-start _ _ _ (c .byte-at .ensures .0))
+
+is-binder-of-requires : tie.Need-is-binder-of-requires Inv-loop μ-loop
+is-binder-of-requires c κs = omega arith
+
+returns : tie.Need-returns Inv-loop μ-loop
+returns c = (search-here _ _ _ _ (omega arith) (rw (← c .before .before .before .loop .inv .1) (sym (c .before .is-binder-of .ensures) ∙ c .if1 .taken)) (c .before .before .before .loop .inv .3), omega arith)
+
+binders-with-requires : tie.Need-binders-with-requires Inv-loop μ-loop
+binders-with-requires c κs = (omega arith, (c .before .before .before .loop .inv .1, omega arith))
+
+add-n : tie.Need-add-n Inv-loop μ-loop
+add-n c = omega arith
+
+loop-less : tie.Need-loop-less Inv-loop μ-loop
+loop-less c = omega arith
+
+loop-again : tie.Need-loop-again Inv-loop μ-loop
+loop-again c = (omega arith, c .binders-with .ensures .0, c .binders-with .ensures .1, search-next _ _ _ _ (omega arith) (rw (← c .before .before .before .before .loop .inv .1) (sym (c .before .before .is-binder-of .ensures) ∙ c .before .if1 .left)) (c .before .before .before .before .loop .inv .3))
+
+returns-2 : tie.Need-returns-2 Inv-loop μ-loop
+returns-2 c = (search-end _ _ _ _ (omega arith) (c .before .loop .inv .3), omega arith)
+
+pub binder-at-spec : {M : Type 1} → statement M
+binder-at-spec =
+    tie.close
+    (tie.spec
+    Inv-loop
+    μ-loop
+    byte-at-requires
+    loop-holds
+    is-binder-of-requires
+    returns
+    binders-with-requires
+    add-n
+    loop-less
+    loop-again
+    returns-2)

@@ -1,0 +1,54 @@
+-- `sheet::rule::binding_faulty` meets its contract.
+use borrow.Author.Needs.{needs}
+use native.Mathlib.Omega.{arith}
+use mathlib.Core.Path.{sym, ap, _∙_}
+use mathlib.Core.Bool.{Bool, not}
+use lib.Dec.{leb}
+use Prim.Native.Nat.{ℕ}
+use Rattle.sheet.specs.Rule.{below}
+use denote.Ref.{now}
+use Rattle.sheet.proofs.NodeSteps.{binding-free, binding-variable, binding-unknown, binding-numbered, binding-misnumbered}
+use Rattle.sheet.proofs.rule.binding_faulty.Statement.{statement}
+use Rattle.sheet.proofs.rule.binding_faulty.Tie as tie
+
+kind-at-requires : tie.Need-kind-at-requires
+kind-at-requires c κs = search needs
+
+returns : tie.Need-returns
+returns c = binding-free _ _ (omega arith)
+
+x-at-requires : tie.Need-x-at-requires
+x-at-requires c κs = search needs
+
+binder-at-requires : tie.Need-binder-at-requires
+binder-at-requires c κs = search needs
+
+stands-below-requires : tie.Need-stands-below-requires
+stands-below-requires c κs = search needs
+
+returns-2 : tie.Need-returns-2
+returns-2 c = rw (c .stands-below .ensures, c .before .binder-at .ensures .0, c .before .before .before .x-at .ensures .0)
+    (sym (binding-variable _ _ (omega arith)))
+
+returns-3 : tie.Need-returns-3
+returns-3 c = binding-unknown _ _ (omega arith)
+
+returns-4 : tie.Need-returns-4
+returns-4 c = rw (c .before .before .before .before .before .before .before .pre .1) (binding-numbered _ _ (omega arith) (omega arith) (omega arith))
+
+returns-5 : tie.Need-returns-5
+returns-5 c = binding-misnumbered _ _ (omega arith) (omega arith) (omega arith)
+
+pub binding-faulty-spec : {M : Type 1} → statement M
+binding-faulty-spec =
+    tie.close
+    (tie.spec
+    kind-at-requires
+    returns
+    x-at-requires
+    binder-at-requires
+    stands-below-requires
+    returns-2
+    returns-3
+    returns-4
+    returns-5)

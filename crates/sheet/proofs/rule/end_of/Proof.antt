@@ -1,0 +1,86 @@
+-- `sheet::rule::end_of` meets its contract. Of the loop: what is left of the way gives the same end.
+use mathlib.Core.Path.{_≡_, refl, sym, ap, _∙_}
+use Prim.Native.Nat.{_-_, _+_, _≤_, _<_}
+use native.Mathlib.Omega.{arith}
+use Rattle.sheet.specs.Rule.{endWithin, partEnd}
+use Rattle.sheet.proofs.NodeSteps.{end-none, end-leaf, end-pair, end-only, end-variable, end-unknown}
+use Rattle.sheet.proofs.rule.end_of.Statement.{statement}
+use Rattle.sheet.proofs.rule.end_of.Tie as tie
+
+abbrev Inv-loop : tie.InvT-loop
+Inv-loop r n at₀ left₀ at left = (left ≤ 64) × (at < 256 + (64 - left)) × (endWithin left r at ≡ partEnd r n)
+
+abbrev μ-loop : tie.MeasureT-loop
+μ-loop r n at₀ left₀ at left = left
+
+loop-holds : tie.Need-loop-holds Inv-loop μ-loop
+loop-holds c = (omega arith, omega arith, refl)
+
+sub-left : tie.Need-sub-left Inv-loop μ-loop
+sub-left c = omega arith
+
+kind-at-requires : tie.Need-kind-at-requires Inv-loop μ-loop
+kind-at-requires c κs = omega arith
+
+add-result : tie.Need-add-result Inv-loop μ-loop
+add-result c = omega arith
+
+returns : tie.Need-returns Inv-loop μ-loop
+returns c = end-leaf _ _ _ (omega arith) (omega arith) ∙ c .before .before .before .loop .inv .2
+
+y-at-requires : tie.Need-y-at-requires Inv-loop μ-loop
+y-at-requires c κs = omega arith
+
+loop-less : tie.Need-loop-less Inv-loop μ-loop
+loop-less c = omega arith
+
+loop-again : tie.Need-loop-again Inv-loop μ-loop
+loop-again c = (omega arith, omega arith, rw (c .y-at .ensures .0) (end-pair _ _ _ (omega arith) (omega arith) (omega arith) ∙ c .before .before .before .before .before .loop .inv .2))
+
+add-result-2 : tie.Need-add-result-2 Inv-loop μ-loop
+add-result-2 c = omega arith
+
+returns-2 : tie.Need-returns-2 Inv-loop μ-loop
+returns-2 c = end-variable _ _ _ (omega arith) (omega arith) ∙ c .before .before .before .before .before .loop .inv .2
+
+add-result-3 : tie.Need-add-result-3 Inv-loop μ-loop
+add-result-3 c = omega arith
+
+returns-3 : tie.Need-returns-3 Inv-loop μ-loop
+returns-3 c = end-unknown _ _ _ (omega arith) (omega arith) ∙ c .before .before .before .before .before .before .loop .inv .2
+
+add-at : tie.Need-add-at Inv-loop μ-loop
+add-at c = omega arith
+
+loop-less-2 : tie.Need-loop-less-2 Inv-loop μ-loop
+loop-less-2 c = omega arith
+
+loop-again-2 : tie.Need-loop-again-2 Inv-loop μ-loop
+loop-again-2 c = (omega arith, omega arith, end-only _ _ _ (omega arith) (omega arith) (omega arith) (omega arith) ∙ c .before .before .before .before .before .before .loop .inv .2)
+
+returns-4 : tie.Need-returns-4 Inv-loop μ-loop
+returns-4 c = let z : c .before .loop .left ≡ 0 = omega arith in
+    end-none _ _ ∙ (rw z at (c .before .loop .inv .2))
+
+pub end-of-spec : {M : Type 1} → statement M
+end-of-spec =
+    tie.close
+    (tie.spec
+    Inv-loop
+    μ-loop
+    loop-holds
+    sub-left
+    kind-at-requires
+    add-result
+    returns
+    y-at-requires
+    loop-less
+    loop-again
+    add-result-2
+    returns-2
+    add-result-3
+    returns-3
+    add-at
+    loop-less-2
+    loop-again-2
+    returns-4)

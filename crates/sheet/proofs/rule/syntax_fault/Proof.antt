@@ -1,0 +1,27 @@
+-- `sheet::rule::syntax_fault` meets its contract.
+use borrow.Author.Needs.{needs}
+use native.Mathlib.Omega.{arith}
+use mathlib.Core.Path.{sym, ap, _∙_}
+use Rattle.sheet.specs.Rule.{firstFault}
+use Rattle.sheet.proofs.PartSteps.{root-fault, root-bound}
+use Rattle.sheet.proofs.rule.syntax_fault.Statement.{statement}
+use Rattle.sheet.proofs.rule.syntax_fault.Tie as tie
+
+node-part-requires : tie.Need-node-part-requires
+node-part-requires c κs = search needs
+
+enum-known-whole : tie.Need-enum-known-whole
+enum-known-whole c = search needs
+
+enum-known-whole-2 : tie.Need-enum-known-whole-2
+enum-known-whole-2 c = search needs
+
+returns : tie.Need-returns
+returns c = (ap firstFault (sym (c .before .whole .given .1)) ∙ root-fault _ _ _ (c .before .before .before .node-part .ensures), omega (arith, ap firstFault (c .before .whole .given .1), root-bound _ _ _ (c .before .before .before .node-part .ensures)))
+
+returns-2 : tie.Need-returns-2
+returns-2 c = (ap firstFault (sym (c .before .whole2 .given .1)) ∙ root-fault _ _ _ (c .before .before .before .node-part .ensures), omega (arith, ap firstFault (c .before .whole2 .given .1), root-bound _ _ _ (c .before .before .before .node-part .ensures)))
+
+pub syntax-fault-spec : {M : Type 1} → statement M
+syntax-fault-spec =
+    tie.close (tie.spec node-part-requires enum-known-whole enum-known-whole-2 returns returns-2)

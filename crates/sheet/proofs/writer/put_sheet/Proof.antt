@@ -1,0 +1,66 @@
+-- `sheet::writer::put_sheet` meets its contract: each copy goes right behind the one before.
+use borrow.Author.Needs.{needs}
+use native.Mathlib.Omega.{arith}
+use mathlib.Core.Path.{sym, ap, _∙_}
+use denote.Ref.{now}
+use mathlib.Core.List.{List}
+use Prim.Native.Nat.{ℕ}
+use lib.ListN.{length}
+use lib.Seq.{paste}
+use Rattle.sheet.proofs.WriteSteps.{copied}
+use Rattle.sheet.proofs.writer.put_sheet.Statement.{statement}
+use Rattle.sheet.proofs.writer.put_sheet.Tie as tie
+
+head-of-requires : tie.Need-head-of-requires
+head-of-requires c κs = search needs
+
+slice-aggregate-copy-at : tie.Need-slice-aggregate-copy-at
+slice-aggregate-copy-at c = ap length (sym (c .before .before .head-of .ensures))
+
+copy-at-requires : tie.Need-copy-at-requires
+copy-at-requires c κs = omega (arith, ap length (c .before .before .head-of .ensures), c .before .before .before .before .before .before .before .pre .room)
+
+copy-at-requires-2 : tie.Need-copy-at-requires-2
+copy-at-requires-2 c κs = omega (arith, c .before .before .before .copy-at .kept .0, c .before .before .before .before .before .before .before .before .before .before .before .pre .room)
+
+add-copy-at : tie.Need-add-copy-at
+add-copy-at c = search needs
+
+copy-at-requires-3 : tie.Need-copy-at-requires-3
+copy-at-requires-3 c κs = omega (arith, c .before .before .before .before .before .before .before .copy-at .kept .0, c .before .before .before .copy-at2 .kept .0, c .before .before .before .before .before .before .before .before .before .before .before .before .before .before .before .pre .room)
+
+add-copy-at-2 : tie.Need-add-copy-at-2
+add-copy-at-2 c = search needs
+
+add-copy-at-3 : tie.Need-add-copy-at-3
+add-copy-at-3 c = search needs
+
+copy-at-requires-4 : tie.Need-copy-at-requires-4
+copy-at-requires-4 c κs = omega (arith, c .before .before .before .before .before .before .before .before .before .before .before .copy-at .kept .0, c .before .before .before .before .before .before .before .copy-at2 .kept .0, c .before .before .before .copy-at3 .kept .0, c .before .before .before .before .before .before .before .before .before .before .before .before .before .before .before .before .before .before .before .pre .room)
+
+same-length : tie.Need-same-length
+same-length c = c .before .before .copy-at4 .kept .0 ∙ (c .before .before .before .before .before .before .copy-at3 .kept .0 ∙ (c .before .before .before .before .before .before .before .before .before .before .copy-at2 .kept .0 ∙ c .before .before .before .before .before .before .before .before .before .before .before .before .before .before .copy-at .kept .0))
+
+returns : tie.Need-returns
+returns c = let a = c .before .before .before .before .before .before .before .before .before .before .before .before .before .before .before .before .before .before .before .before .before .before .args in
+    copied (now (a .p)) (now (a .a)) (now (a .r)) (now (a .out)) _ _ _ _
+    (c .before .before .before .before .before .before .before .before .before .before .before .before .before .before .copy-at .ensures ∙ ap (λ (h : List ℕ). paste (now (a .out)) 0 h (length h)) (c .before .before .before .before .before .before .before .before .before .before .before .before .before .before .before .before .before .head-of .ensures))
+    (c .before .before .before .before .before .before .before .before .before .before .copy-at2 .ensures)
+    (c .before .before .before .before .before .before .copy-at3 .ensures)
+    (c .before .before .copy-at4 .ensures)
+
+pub put-sheet-spec : {M : Type 1} → statement M
+put-sheet-spec =
+    tie.close
+    (tie.spec
+    head-of-requires
+    slice-aggregate-copy-at
+    copy-at-requires
+    copy-at-requires-2
+    add-copy-at
+    copy-at-requires-3
+    add-copy-at-2
+    add-copy-at-3
+    copy-at-requires-4
+    same-length
+    returns)

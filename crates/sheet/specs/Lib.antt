@@ -1,0 +1,12 @@
+pub mod Bytes
+pub mod Refusals
+pub mod Contents
+pub mod Plan
+pub mod Order
+pub mod Actions
+pub mod Rule
+pub mod Parts
+pub mod Fields
+pub mod Rules
+pub mod Reading
+pub mod Writing

@@ -1,0 +1,138 @@
+-- Document 01, "Kind 3, rule": a state formula in preorder. The definitions speak of the body's bytes; entries is the
+-- number of action entries.
+use Prim.Native.Nat.{ℕ, zero, suc, _+_, _*_}
+use mathlib.Core.Bool.{Bool, true, false, not, _&&_}
+use mathlib.Core.List.{List}
+use lib.ListN.{length}
+use lib.Dec.{eqb, ltb, leb}
+use Rattle.sheet.specs.Bytes.{byte, pick, lowest}
+use Rattle.sheet.specs.declared.Extent.{Extent}
+use Rattle.sheet.specs.declared.Extent.the-variants.{Ends, Faulty}
+
+-- "Count N (1 byte, 1 to 64), then nodes of kind, x, y."
+abbrev pub nodeCount : List ℕ → ℕ
+nodeCount r = byte r 0
+
+abbrev pub nodeKind : List ℕ → ℕ → ℕ
+nodeKind r n = byte r (1 + 3 * n)
+
+abbrev pub nodeX : List ℕ → ℕ → ℕ
+nodeX r n = byte r (2 + 3 * n)
+
+abbrev pub nodeY : List ℕ → ℕ → ℕ
+nodeY r n = byte r (3 + 3 * n)
+
+-- refusal 8: "rule empty, N outside 1 to 64, or length not 1 + 3 × N"
+unfoldable pub ruleSized : List ℕ → Bool
+ruleSized r = leb 1 (length r) && (leb 1 (nodeCount r) && (leb (nodeCount r) 64 && eqb (length r) (1 + 3 * nodeCount r)))
+
+-- "0 F, 1 T, 2 or, 3 and (children x, y), 4 some (diamond), 5 every (box), 6 variable x, 7 least, 8 greatest fixed point"
+pub data Shape : Type 0 where
+  leaf pair modal variable binder unknown : Shape
+
+abbrev pub shapeOf : ℕ → Shape
+shapeOf k =
+    pick (ltb k 2) leaf (pick (ltb k 4) pair (pick (ltb k 6) modal (pick (eqb k 6) variable (pick (ltb k 9) binder unknown))))
+
+-- ---- refusal 9: "a node's kind, field or child number"
+
+-- node c can be a child that stands at its place: it is the node that the place rule names, and the rule has it
+abbrev pub childIs : List ℕ → ℕ → ℕ → Bool
+childIs r c place = eqb c place && ltb place (nodeCount r)
+
+-- "a second child the first node after the first child's part": after the first child's part, or its fault
+abbrev pub second : (ℕ → Extent) → List ℕ → ℕ → Extent → Extent
+second go r n (Faulty m) = Faulty m
+second go r n (Ends e) = pick (childIs r (nodeY r n) e) (go e) (Faulty n)
+
+-- The part of node n, where go gives the part of a later node: the node after it, or the first fault met in preorder.
+-- "A first or only child is the next node"; unused fields are 0; the entry of a modality is below the count; a second child's number is looked at
+-- after the first child's part; a missing child is the fault of its parent.
+abbrev pub course : (ℕ → Extent) → ℕ → List ℕ → ℕ → Shape → Extent
+course go entries r n leaf = pick (eqb (nodeX r n) 0 && eqb (nodeY r n) 0) (Ends (n + 1)) (Faulty n)
+course go entries r n pair = pick (childIs r (nodeX r n) (n + 1)) (second go r n (go (n + 1))) (Faulty n)
+course go entries r n modal = pick (ltb (nodeX r n) entries && childIs r (nodeY r n) (n + 1)) (go (n + 1)) (Faulty n)
+course go entries r n variable = pick (eqb (nodeY r n) 0) (Ends (n + 1)) (Faulty n)
+course go entries r n binder = pick (childIs r (nodeY r n) (n + 1)) (go (n + 1)) (Faulty n)
+course go entries r n unknown = Faulty n
+
+-- the part of node n; depth is at least the number of nodes from n on
+unfoldable pub extent : ℕ → ℕ → List ℕ → ℕ → Extent
+extent zero entries r n = Faulty n
+extent (suc depth) entries r n = course (extent depth entries r) entries r n (shapeOf (nodeKind r n))
+
+-- the first fault met in preorder, or N: "nothing follows the root's part", and a node left over is faulty itself
+abbrev pub firstFault : Extent → ℕ
+firstFault (Faulty m) = m
+firstFault (Ends e) = e
+
+abbrev pub syntaxFault : ℕ → List ℕ → ℕ
+syntaxFault entries r = firstFault (extent (nodeCount r) entries r 0)
+
+-- ---- refusal 10: "a binder number, a seventh binder, or a variable not below its binder"
+
+abbrev pub isBinder : List ℕ → ℕ → Bool
+isBinder r n = leb 7 (nodeKind r n) && ltb (nodeKind r n) 9
+
+abbrev pub oneIf : Bool → ℕ
+oneIf b = pick b 1 0
+
+-- how many binders stand among the nodes below n
+unfoldable pub bindersBefore : List ℕ → ℕ → ℕ
+bindersBefore r zero = 0
+bindersBefore r (suc n) = bindersBefore r n + oneIf (isBinder r n)
+
+-- B, the number of binders
+abbrev pub binderCount : List ℕ → ℕ
+binderCount r = bindersBefore r (nodeCount r)
+
+-- "Binders (kinds 7, 8), in preorder, bind variables 0, 1, 2 and so on": the node of binder k, or N where there is none
+abbrev pub bindsAt : List ℕ → ℕ → ℕ → Bool
+bindsAt r k n = isBinder r n && eqb (bindersBefore r n) k
+
+unfoldable pub binderNode : List ℕ → ℕ → ℕ
+binderNode r k = lowest (bindsAt r k) (nodeCount r)
+
+-- The first node after node n's part: after its last child's part, and a node with no child is its whole part.
+-- depth is the number of nodes that are looked at; 64 is always enough.
+abbrev pub endCourse : (ℕ → ℕ) → List ℕ → ℕ → Shape → ℕ
+endCourse go r n leaf = n + 1
+endCourse go r n pair = go (nodeY r n)
+endCourse go r n modal = go (n + 1)
+endCourse go r n variable = n + 1
+endCourse go r n binder = go (n + 1)
+endCourse go r n unknown = n + 1
+
+unfoldable pub endWithin : ℕ → List ℕ → ℕ → ℕ
+endWithin zero r n = n
+endWithin (suc depth) r n = endCourse (endWithin depth r) r n (shapeOf (nodeKind r n))
+
+abbrev pub partEnd : List ℕ → ℕ → ℕ
+partEnd r n = endWithin 64 r n
+
+-- node n stands below node b: in its part, and not b itself
+abbrev pub below : List ℕ → ℕ → ℕ → Bool
+below r b n = ltb b n && ltb n (partEnd r b)
+
+abbrev pub bindingWrong : List ℕ → ℕ → Shape → Bool
+bindingWrong r n leaf = false
+bindingWrong r n pair = false
+bindingWrong r n modal = false
+bindingWrong r n variable = not (below r (binderNode r (nodeX r n)) n)
+bindingWrong r n binder = not (eqb (nodeX r n) (bindersBefore r n) && ltb (bindersBefore r n) 6)
+bindingWrong r n unknown = false
+
+unfoldable pub bindingFaulty : List ℕ → ℕ → Bool
+bindingFaulty r n = bindingWrong r n (shapeOf (nodeKind r n))
+
+abbrev pub lowestBinding : List ℕ → ℕ
+lowestBinding r = lowest (bindingFaulty r) (nodeCount r)
+
+-- how many of the binders among the nodes below b stand above node n
+unfoldable pub aboveAmong : List ℕ → ℕ → ℕ → ℕ
+aboveAmong r n zero = 0
+aboveAmong r n (suc b) = aboveAmong r n b + oneIf (isBinder r b && below r b n)
+
+-- how many binders stand above node n
+abbrev pub bindersAbove : List ℕ → ℕ → ℕ
+bindersAbove r n = aboveAmong r n n

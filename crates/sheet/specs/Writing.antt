@@ -1,0 +1,70 @@
+-- The writer: the sheet that three bodies make, and what the writer answers and leaves in the output buffer.
+use Prim.Native.Nat.{ℕ, _+_, _/_, _%_, _<_, _≤_}
+use mathlib.Core.Bool.{Bool}
+use mathlib.Core.List.{List, [], _∷_, _++_}
+use lib.ListN.{length, drop}
+use lib.Dec.{leb}
+use Rattle.sheet.specs.Refusals.{numberOf, placeOf, require, andThen}
+use Rattle.sheet.specs.Contents.{headLength}
+use Rattle.sheet.specs.Reading.{bodiesCheck}
+use Rattle.sheet.specs.declared.Refusal.the-variants.{OutputShort}
+use Rattle.sheet.specs.declared.Check.{Check}
+use Rattle.sheet.specs.declared.Check.the-variants.{Passed, Failed}
+use Rattle.sheet.specs.declared.Written.{Written}
+use Rattle.sheet.specs.declared.Written.the-variants.{Wrote, Declined}
+
+-- a number below 65,536 as two bytes, "the low byte first"
+abbrev pub twoBytes : ℕ → List ℕ → List ℕ
+twoBytes n rest = n % 256 ∷ n / 256 % 256 ∷ rest
+
+-- "three entries of 5 bytes: kind (1 byte), offset (16 bits), length (16 bits)"
+abbrev pub contentsEntry : ℕ → ℕ → ℕ → List ℕ → List ℕ
+contentsEntry kind offset length rest = kind ∷ twoBytes offset (twoBytes length rest)
+
+-- edition, number of entries and the table of contents for bodies of these lengths
+abbrev pub head : ℕ → ℕ → ℕ → List ℕ
+head p a r =
+    1 ∷ 3 ∷ contentsEntry 1 headLength p (contentsEntry 2 (headLength + p) a (contentsEntry 3 (headLength + p + a) r []))
+
+-- the sheet made from three bodies
+unfoldable pub sheetOf : List ℕ → List ℕ → List ℕ → List ℕ
+sheetOf p a r = head (length p) (length a) (length r) ++ (p ++ (a ++ r))
+
+abbrev pub sheetLength : List ℕ → List ℕ → List ℕ → ℕ
+sheetLength p a r = headLength + length p + length a + length r
+
+-- lengths that two bytes hold, and an output with room for the sheet: what the writer knows when it writes; no promise of a public call cites it
+pub record Room (p a r out : List ℕ) : Type 0 where
+  pub plan-short : length p < 65536
+  pub actions-short : length a < 65536
+  pub rule-short : length r < 65536
+  pub room : sheetLength p a r ≤ length out
+
+-- "the writer 4 to 10, then 22"
+unfoldable pub writeCheck : List ℕ → List ℕ → List ℕ → ℕ → Check
+writeCheck p a r room = andThen (bodiesCheck p a r) (require (leb (sheetLength p a r) room) OutputShort)
+
+abbrev pub answerWritten : ℕ → Check → Written
+answerWritten length Passed = Wrote length
+answerWritten length (Failed r) = Declined r
+
+unfoldable pub writtenOf : List ℕ → List ℕ → List ℕ → ℕ → Written
+writtenOf p a r room = answerWritten (sheetLength p a r) (writeCheck p a r room)
+
+-- the output buffer: the sheet and, past its length, what stood there; all unchanged on a refusal
+abbrev pub leaves : List ℕ → List ℕ → Check → List ℕ
+leaves sheet out Passed = sheet ++ drop (length sheet) out
+leaves sheet out (Failed r) = out
+
+unfoldable pub outputAfter : List ℕ → List ℕ → List ℕ → List ℕ → List ℕ
+outputAfter p a r out = leaves (sheetOf p a r) out (writeCheck p a r (length out))
+
+-- what each answer reports: number, place and length
+pub record Writing : Type 0 where
+  pub number : ℕ
+  pub place : ℕ
+  pub length : ℕ
+
+abbrev pub reportedWriting : Written → Writing
+reportedWriting (Wrote n) = record { number = 0; place = 0; length = n }
+reportedWriting (Declined r) = record { number = numberOf r; place = placeOf r; length = 0 }

@@ -1,0 +1,144 @@
+// The reader: checks a sheet from front to back and says where its bodies lie.
+use crate::Bodies;
+use crate::Check;
+use crate::Part;
+use crate::Read;
+use crate::Refusal;
+use crate::actions::check_actions;
+use crate::bytes::byte_at;
+use crate::bytes::part_of;
+use crate::bytes::word_at;
+use crate::plan::check_plan;
+use crate::rule::check_rule;
+ghost use mathlib.Core.Path.{_≡_};
+ghost use Prim.Native.Nat.{_+_, _≤_, _<_};
+ghost use Rattle.sheet.specs.Contents.{headingRight, entryIs, contentsRight, planBody, actionsBody, ruleBody};
+ghost use Rattle.sheet.specs.Reading.{bodiesCheck, sheetCheck, bodiesOf, readOf};
+
+fn heading_right(s: &[u8]) -> bool
+    ensures { λ r. ⌜ r ≡ headingRight (now (s .entry)) ⌝ }
+{
+    if byte_at(s, 0) == 1 {
+        return byte_at(s, 1) == 3;
+    }
+    false
+}
+
+fn entry_is(s: &[u8], at: usize, kind: usize, offset: usize) -> bool
+    requires { ⌜ at < 1000 ⌝ }
+    ensures { λ r. ⌜ r ≡ entryIs (now (s .entry)) at kind offset ⌝ }
+{
+    if byte_at(s, at) == kind {
+        return word_at(s, at + 1) == offset;
+    }
+    false
+}
+
+fn contents_right(s: &[u8]) -> bool
+    ensures { λ r. ⌜ r ≡ contentsRight (now (s .entry)) ⌝ }
+{
+    if !entry_is(s, 2, 1, 17) {
+        return false;
+    }
+    let actions = 17 + word_at(s, 5);
+    if !entry_is(s, 7, 2, actions) {
+        return false;
+    }
+    let rule = actions + word_at(s, 10);
+    if !entry_is(s, 12, 3, rule) {
+        return false;
+    }
+    if s.len() != rule + word_at(s, 15) {
+        return false;
+    }
+    s.len() <= 6455
+}
+
+// Refusals 4 to 10.
+pub(crate) fn check_bodies(p: &[u8], a: &[u8], r: &[u8]) -> Check
+    ensures { λ c. ⌜ c ≡ bodiesCheck (now (p .entry)) (now (a .entry)) (now (r .entry)) ⌝ }
+{
+    let plan = check_plan(p);
+    match plan {
+        Check::Failed(x) => Check::Failed(x),
+        Check::Passed => {
+            let actions = check_actions(byte_at(p, 1), a);
+            match actions {
+                Check::Failed(x) => Check::Failed(x),
+                Check::Passed => check_rule(byte_at(a, 0), r),
+            }
+        }
+    }
+}
+
+// The three bodies, as the table of contents places them.
+pub fn plan_body(sheet: &[u8]) -> &[u8]
+    ensures { λ r. ⌜ now r ≡ planBody (now (sheet .entry)) ⌝ }
+{
+    part_of(sheet, 17, word_at(sheet, 5))
+}
+
+pub fn actions_body(sheet: &[u8]) -> &[u8]
+    ensures { λ r. ⌜ now r ≡ actionsBody (now (sheet .entry)) ⌝ }
+{
+    part_of(sheet, 17 + word_at(sheet, 5), word_at(sheet, 10))
+}
+
+pub fn rule_body(sheet: &[u8]) -> &[u8]
+    ensures { λ r. ⌜ now r ≡ ruleBody (now (sheet .entry)) ⌝ }
+{
+    part_of(
+        sheet,
+        17 + word_at(sheet, 5) + word_at(sheet, 10),
+        word_at(sheet, 15),
+    )
+}
+
+// Refusals 1 to 10.
+pub fn check(sheet: &[u8]) -> Check
+    ensures { λ c. ⌜ c ≡ sheetCheck (now (sheet .entry)) ⌝ }
+{
+    if sheet.len() < 17 {
+        return Check::Failed(Refusal::TooShort);
+    }
+    if !heading_right(sheet) {
+        return Check::Failed(Refusal::Heading);
+    }
+    if !contents_right(sheet) {
+        return Check::Failed(Refusal::Contents);
+    }
+    check_bodies(plan_body(sheet), actions_body(sheet), rule_body(sheet))
+}
+
+fn bodies_of(sheet: &[u8]) -> Bodies
+    ensures { λ b. ⌜ b ≡ bodiesOf (now (sheet .entry)) ⌝ }
+{
+    let plan = word_at(sheet, 5);
+    let actions = word_at(sheet, 10);
+    let rule = word_at(sheet, 15);
+    Bodies {
+        plan: Part {
+            offset: 17,
+            length: plan,
+        },
+        actions: Part {
+            offset: 17 + plan,
+            length: actions,
+        },
+        rule: Part {
+            offset: 17 + plan + actions,
+            length: rule,
+        },
+    }
+}
+
+// Number, place, and each body's offset and length.
+pub fn read(sheet: &[u8]) -> Read
+    ensures { λ r. ⌜ r ≡ readOf (now (sheet .entry)) ⌝ }
+{
+    let checked = check(sheet);
+    match checked {
+        Check::Passed => Read::Accepted(bodies_of(sheet)),
+        Check::Failed(x) => Read::Refused(x),
+    }
+}

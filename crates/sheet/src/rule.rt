@@ -1,0 +1,390 @@
+// The rule: its check and its fields.
+use crate::Check;
+use crate::Extent;
+use crate::Fields;
+use crate::Node;
+use crate::Refusal;
+use crate::Variable;
+use crate::actions::both_zero;
+use crate::bytes::byte_at;
+use crate::bytes::fields_at;
+use crate::bytes::narrow_at;
+ghost use mathlib.Core.Path.{_≡_};
+ghost use mathlib.Core.Bool.{_&&_};
+ghost use Prim.Native.Nat.{_+_, _*_, _<_, _≤_};
+ghost use lib.Dec.{eqb, ltb};
+ghost use Rattle.sheet.specs.Rule.{nodeCount, binderCount, bindersAbove, aboveAmong, ruleSized, nodeKind, nodeX, nodeY, childIs, syntaxFault, isBinder, bindersBefore, binderNode, partEnd, below, bindingFaulty, lowestBinding};
+ghost use Rattle.sheet.specs.Parts.{NodeOf, Ended};
+ghost use Rattle.sheet.specs.Fields.{fieldsAt};
+ghost use Rattle.sheet.specs.Reading.{ruleCheck};
+
+fn sized(r: &[u8]) -> bool
+    ensures { λ b. ⌜ b ≡ ruleSized (now (r .entry)) ⌝ }
+{
+    if r.len() < 1 {
+        return false;
+    }
+    let count = byte_at(r, 0);
+    if count < 1 {
+        return false;
+    }
+    if 64 < count {
+        return false;
+    }
+    r.len() == 1 + 3 * count
+}
+
+fn kind_at(r: &[u8], n: usize) -> usize
+    requires { ⌜ n < 65536 ⌝ }
+    ensures { λ k. ⌜ (k ≡ nodeKind (now (r .entry)) n) × (k < 256) ⌝ }
+{
+    byte_at(r, 1 + 3 * n)
+}
+
+fn x_at(r: &[u8], n: usize) -> usize
+    requires { ⌜ n < 65536 ⌝ }
+    ensures { λ x. ⌜ (x ≡ nodeX (now (r .entry)) n) × (x < 256) ⌝ }
+{
+    byte_at(r, 2 + 3 * n)
+}
+
+fn y_at(r: &[u8], n: usize) -> usize
+    requires { ⌜ n < 65536 ⌝ }
+    ensures { λ y. ⌜ (y ≡ nodeY (now (r .entry)) n) × (y < 256) ⌝ }
+{
+    byte_at(r, 3 + 3 * n)
+}
+
+fn leaf_right(r: &[u8], n: usize) -> bool
+    requires { ⌜ n < 65536 ⌝ }
+    ensures { λ b. ⌜ b ≡ (eqb (nodeX (now (r .entry)) n) 0 && eqb (nodeY (now (r .entry)) n) 0) ⌝ }
+{
+    both_zero(x_at(r, n), y_at(r, n))
+}
+
+fn variable_right(r: &[u8], n: usize) -> bool
+    requires { ⌜ n < 65536 ⌝ }
+    ensures { λ b. ⌜ b ≡ eqb (nodeY (now (r .entry)) n) 0 ⌝ }
+{
+    y_at(r, n) == 0
+}
+
+fn child_is(r: &[u8], child: usize, place: usize) -> bool
+    ensures { λ b. ⌜ b ≡ childIs (now (r .entry)) child place ⌝ }
+{
+    if child == place {
+        return place < byte_at(r, 0);
+    }
+    false
+}
+
+fn x_is_child(r: &[u8], n: usize, place: usize) -> bool
+    requires { ⌜ n < 65536 ⌝ }
+    ensures { λ b. ⌜ b ≡ childIs (now (r .entry)) (nodeX (now (r .entry)) n) place ⌝ }
+{
+    child_is(r, x_at(r, n), place)
+}
+
+fn y_is_child(r: &[u8], n: usize, place: usize) -> bool
+    requires { ⌜ n < 65536 ⌝ }
+    ensures { λ b. ⌜ b ≡ childIs (now (r .entry)) (nodeY (now (r .entry)) n) place ⌝ }
+{
+    child_is(r, y_at(r, n), place)
+}
+
+fn modal_right(r: &[u8], entries: usize, n: usize) -> bool
+    requires { ⌜ n < 65536 ⌝ }
+    ensures { λ b. ⌜ b ≡ (ltb (nodeX (now (r .entry)) n) entries && childIs (now (r .entry)) (nodeY (now (r .entry)) n) (n + 1)) ⌝ }
+{
+    if x_at(r, n) < entries {
+        return y_is_child(r, n, n + 1);
+    }
+    false
+}
+
+// The part of node n: each kind takes its own course.
+fn node_part(r: &[u8], entries: usize, n: usize) -> Extent
+    requires { ⌜ NodeOf (now r) n ⌝ }
+    ensures { λ x. ⌜ Ended entries (now (r .entry)) n x ⌝ }
+{
+    let k = kind_at(r, n);
+    match k {
+        0..=1 => {
+            if leaf_right(r, n) {
+                Extent::Ends(n + 1)
+            } else {
+                Extent::Faulty(n)
+            }
+        }
+        2..=3 => {
+            if x_is_child(r, n, n + 1) {
+                let first = node_part(r, entries, n + 1);
+                match first {
+                    Extent::Faulty(m) => Extent::Faulty(m),
+                    Extent::Ends(e) => {
+                        if y_is_child(r, n, e) {
+                            node_part(r, entries, e)
+                        } else {
+                            Extent::Faulty(n)
+                        }
+                    }
+                }
+            } else {
+                Extent::Faulty(n)
+            }
+        }
+        4..=5 => {
+            if modal_right(r, entries, n) {
+                node_part(r, entries, n + 1)
+            } else {
+                Extent::Faulty(n)
+            }
+        }
+        6 => {
+            if variable_right(r, n) {
+                Extent::Ends(n + 1)
+            } else {
+                Extent::Faulty(n)
+            }
+        }
+        7..=8 => {
+            if y_is_child(r, n, n + 1) {
+                node_part(r, entries, n + 1)
+            } else {
+                Extent::Faulty(n)
+            }
+        }
+        _ => Extent::Faulty(n),
+    }
+}
+
+// The first faulty node in preorder, or the number of nodes.
+fn syntax_fault(r: &[u8], entries: usize) -> usize
+    requires { ⌜ NodeOf (now r) 0 ⌝ }
+    ensures { λ n. ⌜ (n ≡ syntaxFault entries (now (r .entry))) × (n ≤ 64) ⌝ }
+{
+    let whole = node_part(r, entries, 0);
+    match whole {
+        Extent::Faulty(m) => m,
+        Extent::Ends(e) => e,
+    }
+}
+
+fn is_binder(r: &[u8], n: usize) -> bool
+    requires { ⌜ n < 65536 ⌝ }
+    ensures { λ b. ⌜ b ≡ isBinder (now (r .entry)) n ⌝ }
+{
+    let k = kind_at(r, n);
+    if 7 <= k {
+        return k < 9;
+    }
+    false
+}
+
+// How many binders stand among the first n nodes.
+fn binders_before(r: &[u8], n: usize) -> usize
+    requires { ⌜ n < 65536 ⌝ }
+    ensures { λ b. ⌜ (b ≡ bindersBefore (now (r .entry)) n) × (b ≤ n) ⌝ }
+{
+    let mut binders = 0;
+    let mut at = 0;
+    while at < n {
+        binders = binders_with(r, at, binders);
+        at += 1;
+    }
+    binders
+}
+
+fn is_binder_of(r: &[u8], n: usize, binders: usize, k: usize) -> bool
+    requires { ⌜ n < 65536 ⌝ }
+    ensures { λ b. ⌜ b ≡ (isBinder (now (r .entry)) n && eqb binders k) ⌝ }
+{
+    if is_binder(r, n) {
+        return binders == k;
+    }
+    false
+}
+
+// The node of binder k, or the number of nodes where there is none.
+fn binder_at(r: &[u8], k: usize) -> usize
+    ensures { λ n. ⌜ (n ≡ binderNode (now (r .entry)) k) × (n < 256) ⌝ }
+{
+    let count = byte_at(r, 0);
+    let mut binders = 0;
+    let mut n = 0;
+    while n < count {
+        if is_binder_of(r, n, binders, k) {
+            return n;
+        }
+        binders = binders_with(r, n, binders);
+        n += 1;
+    }
+    n
+}
+
+// The first node after node n's part: that of its last child.
+fn end_of(r: &[u8], n: usize) -> usize
+    requires { ⌜ n < 256 ⌝ }
+    ensures { λ e. ⌜ e ≡ partEnd (now (r .entry)) n ⌝ }
+{
+    let mut at = n;
+    let mut left: usize = 64;
+    while 0 < left {
+        left -= 1;
+        let k = kind_at(r, at);
+        if k < 2 {
+            return at + 1;
+        }
+        if k < 4 {
+            at = y_at(r, at);
+            continue;
+        }
+        if k == 6 {
+            return at + 1;
+        }
+        if 8 < k {
+            return at + 1;
+        }
+        at += 1;
+    }
+    at
+}
+
+// Whether the variable or binder node n breaks the rules of binding; binders is the number of binders before it.
+fn binding_faulty(r: &[u8], n: usize, binders: usize) -> bool
+    requires { ⌜ (n < 256) × (binders ≡ bindersBefore (now r) n) ⌝ }
+    ensures { λ b. ⌜ b ≡ bindingFaulty (now (r .entry)) n ⌝ }
+{
+    let k = kind_at(r, n);
+    if k < 6 {
+        return false;
+    }
+    let x = x_at(r, n);
+    if k == 6 {
+        return !stands_below(r, binder_at(r, x), n);
+    }
+    if 8 < k {
+        return false;
+    }
+    if x == binders {
+        return 6 <= binders;
+    }
+    true
+}
+
+fn stands_below(r: &[u8], b: usize, n: usize) -> bool
+    requires { ⌜ b < 256 ⌝ }
+    ensures { λ d. ⌜ d ≡ below (now (r .entry)) b n ⌝ }
+{
+    if b < n {
+        return n < end_of(r, b);
+    }
+    false
+}
+
+// The lowest node that breaks the rules of binding, or the number of nodes.
+fn lowest_faulty(r: &[u8]) -> usize
+    ensures { λ n. ⌜ (n ≡ lowestBinding (now (r .entry))) × (n < 256) ⌝ }
+{
+    let count = byte_at(r, 0);
+    let mut binders = 0;
+    let mut n = 0;
+    while n < count {
+        if binding_faulty(r, n, binders) {
+            return n;
+        }
+        binders = binders_with(r, n, binders);
+        n += 1;
+    }
+    n
+}
+
+fn binders_with(r: &[u8], n: usize, binders: usize) -> usize
+    requires { ⌜ (n < 65536) × ((binders ≡ bindersBefore (now r) n) × (binders ≤ n)) ⌝ }
+    ensures { λ b. ⌜ (b ≡ bindersBefore (now (r .entry)) (n + 1)) × (b ≤ n + 1) ⌝ }
+{
+    if is_binder(r, n) {
+        return binders + 1;
+    }
+    binders
+}
+
+// Refusals 8, 9 and 10.
+pub(crate) fn check_rule(entries: usize, r: &[u8]) -> Check
+    ensures { λ c. ⌜ c ≡ ruleCheck entries (now (r .entry)) ⌝ }
+{
+    if !sized(r) {
+        return Check::Failed(Refusal::RuleSize);
+    }
+    let count = byte_at(r, 0);
+    let s = syntax_fault(r, entries);
+    if s != count {
+        return Check::Failed(Refusal::SyntaxFault(Node(s as u8)));
+    }
+    let b = lowest_faulty(r);
+    if b != count {
+        return Check::Failed(Refusal::BindingFault(Node(b as u8)));
+    }
+    Check::Passed
+}
+
+pub fn node_count(rule: &[u8]) -> u8
+    ensures { λ r. ⌜ r ≡ nodeCount (now (rule .entry)) ⌝ }
+{
+    narrow_at(rule, 0)
+}
+
+pub fn node(rule: &[u8], n: Node) -> Fields
+    ensures { λ r. ⌜ r ≡ fieldsAt (now (rule .entry)) (n .0) ⌝ }
+{
+    fields_at(rule, n.0)
+}
+
+// The number of binders.
+pub fn binder_count(rule: &[u8]) -> u8
+    ensures { λ r. ⌜ r ≡ binderCount (now (rule .entry)) ⌝ }
+{
+    binders_before(rule, byte_at(rule, 0)) as u8
+}
+
+// The node that binds a variable, or the number of nodes where none does.
+pub fn binder_node(rule: &[u8], k: Variable) -> Node
+    ensures { λ r. ⌜ r .0 ≡ binderNode (now (rule .entry)) (k .0) ⌝ }
+{
+    Node(binder_at(rule, k.0 as usize) as u8)
+}
+
+// Whether node n stands below node b.
+pub fn is_below(rule: &[u8], b: Node, n: Node) -> bool
+    ensures { λ r. ⌜ r ≡ below (now (rule .entry)) (b .0) (n .0) ⌝ }
+{
+    stands_below(rule, b.0 as usize, n.0 as usize)
+}
+
+fn binder_above(r: &[u8], b: usize, n: usize) -> bool
+    requires { ⌜ b < 256 ⌝ }
+    ensures { λ d. ⌜ d ≡ (isBinder (now (r .entry)) b && below (now (r .entry)) b n) ⌝ }
+{
+    if is_binder(r, b) {
+        return stands_below(r, b, n);
+    }
+    false
+}
+
+// How many binders stand above node n.
+pub fn binders_above(rule: &[u8], n: Node) -> u8
+    ensures { λ r. ⌜ r ≡ bindersAbove (now (rule .entry)) (n .0) ⌝ }
+{
+    let node = n.0 as usize;
+    let mut above: u8 = 0;
+    let mut b = 0;
+    while b < node {
+        if binder_above(rule, b, node) {
+            above += 1;
+            b += 1;
+            continue;
+        }
+        b += 1;
+    }
+    above
+}
