@@ -10,11 +10,12 @@ use Rattle.sheet.specs.Bytes.{byte, word}
 use Rattle.sheet.specs.Contents.{headingRight, headLength, longest, entryIs, actionsOffset, ruleOffset, ruleLength, contentsRight, planBody, actionsBody, ruleBody}
 use Rattle.sheet.specs.Plan.{actionCount}
 use Rattle.sheet.specs.Actions.{entryCount}
-use Rattle.sheet.specs.Reading.{planCheck, actionsCheck, ruleCheck, bodiesCheck, sheetCheck, readOf, bodiesOf}
+use Rattle.sheet.specs.Reading.{planCheck, actionsCheck, ruleCheck, bodiesCheck, sheetCheck, readOf, bodiesOf, reported, readingOf}
 use Rattle.sheet.specs.declared.Refusal.{Refusal}
 use Rattle.sheet.specs.declared.Refusal.the-variants.{TooShort, Heading, Contents}
 use Rattle.sheet.specs.declared.Check.{Check}
 use Rattle.sheet.specs.declared.Check.the-variants.{Passed, Failed}
+use Rattle.sheet.specs.declared.Read.{Read}
 use Rattle.sheet.specs.declared.Read.the-variants.{Accepted, Refused}
 
 module _ (s : List ℕ) where
@@ -83,6 +84,10 @@ module _ (s : List ℕ) where
   pub read-refused : (x : Refusal) → sheetCheck s ≡ Failed x → Refused x ≡ readOf s
   unfolding readOf
   read-refused x e = rw e
+
+-- an answer and what it reports
+pub answered : (s : List ℕ) (r : Read) → r ≡ readOf s → (r ≡ readOf s) × (reported r ≡ readingOf s)
+answered s r e = (e, ap reported e)
 
 module _ (p a r : List ℕ) where
   pub bodies-plan : (x : Refusal) → planCheck p ≡ Failed x → Failed x ≡ bodiesCheck p a r

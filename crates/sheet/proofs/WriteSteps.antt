@@ -9,10 +9,11 @@ use borrow.Author.Tests.{le-leb, lt-leb}
 use Rattle.sheet.specs.Contents.{headLength}
 use Rattle.sheet.specs.Rules.{BodiesKept}
 use Rattle.sheet.specs.Reading.{bodiesCheck}
-use Rattle.sheet.specs.Writing.{head, sheetOf, sheetLength, Room, writeCheck, writtenOf, outputAfter}
+use Rattle.sheet.specs.Writing.{head, sheetOf, sheetLength, Room, writeCheck, writtenOf, reportedWriting, writingOf, outputAfter}
 use Rattle.sheet.specs.declared.Refusal.{Refusal}
 use Rattle.sheet.specs.declared.Refusal.the-variants.{OutputShort}
 use Rattle.sheet.specs.declared.Check.the-variants.{Passed, Failed}
+use Rattle.sheet.specs.declared.Written.{Written}
 use Rattle.sheet.specs.declared.Written.the-variants.{Wrote, Declined}
 use Rattle.sheet.proofs.Accepted.{bodies-iff}
 use Rattle.sheet.proofs.RoundTrip.{written-length}
@@ -30,6 +31,14 @@ next-copy done out src at e =
         (ap (drop (length src)) (lib.Seq.drop-at done (drop at out) at e) ∙ drop-drop (length src) at out)
 
 module _ (p a r out : List ℕ) where
+  -- the answer, what it reports and what the output then holds
+  abbrev Answers : Written → List ℕ → Type 0
+  Answers w now =
+      (w ≡ writtenOf p a r (length out)) × ((reportedWriting w ≡ writingOf p a r (length out)) × (now ≡ outputAfter p a r out))
+
+  answers : (w : Written) (now : List ℕ) → w ≡ writtenOf p a r (length out) → now ≡ outputAfter p a r out → Answers w now
+  answers w now e f = (e, (ap reportedWriting e, f))
+
   pub copied : (one two three four : List ℕ) → one ≡ paste out 0 (head (length p) (length a) (length r)) 17 → two ≡ paste one 17 p (length p) → three ≡ paste two (17 + length p) a (length a) → four ≡ paste three (17 + length p + length a) r (length r) → four ≡ sheetOf p a r ++ drop (sheetLength p a r) out
   unfolding sheetOf
   copied one two three four e f g h =
@@ -43,23 +52,23 @@ module _ (p a r out : List ℕ) where
       next-copy ((start ++ p) ++ a) out r (17 + length p + length a) (length-append (start ++ p) a ∙ ap (λ (k : ℕ). k + length a) (length-append start p))) in
       whole ∙ ap (λ (x : List ℕ). x ++ drop (sheetLength p a r) out) (append-assoc (start ++ p) a r ∙ append-assoc start p (a ++ r))
 
-  pub declined : (x : Refusal) → bodiesCheck p a r ≡ Failed x → (Declined x ≡ writtenOf p a r (length out)) × (out ≡ outputAfter p a r out)
+  pub declined : (x : Refusal) → bodiesCheck p a r ≡ Failed x → Answers (Declined x) out
   unfolding writtenOf outputAfter writeCheck
-  declined x e = (rw e, rw e)
+  declined x e = answers (Declined x) out (rw e) (rw e)
 
   module _ (e : bodiesCheck p a r ≡ Passed) where
-    pub short : length out < sheetLength p a r → (Declined OutputShort ≡ writtenOf p a r (length out)) × (out ≡ outputAfter p a r out)
+    pub short : length out < sheetLength p a r → Answers (Declined OutputShort) out
     unfolding writtenOf outputAfter writeCheck
-    short h = (rw (e, lt-leb (sheetLength p a r) (length out) h), rw (e, lt-leb (sheetLength p a r) (length out) h))
+    short h =
+        let f = lt-leb (sheetLength p a r) (length out) h in
+        answers (Declined OutputShort) out (rw (e, f)) (rw (e, f))
 
-    pub wrote : sheetLength p a r ≤ length out → Wrote (sheetLength p a r) ≡ writtenOf p a r (length out)
-    unfolding writtenOf writeCheck
-    wrote h = rw (e, le-leb (sheetLength p a r) (length out) h)
-
-    pub output : sheetLength p a r ≤ length out → (now : List ℕ) → now ≡ sheetOf p a r ++ drop (sheetLength p a r) out → now ≡ outputAfter p a r out
-    unfolding outputAfter writeCheck
-    output h now f =
-        f ∙ rw (e, le-leb (sheetLength p a r) (length out) h) (ap (λ (n : ℕ). sheetOf p a r ++ drop n out) (sym (written-length p a r)))
+    pub wrote : sheetLength p a r ≤ length out → (now : List ℕ) → now ≡ sheetOf p a r ++ drop (sheetLength p a r) out → Answers (Wrote (sheetLength p a r)) now
+    unfolding writtenOf outputAfter writeCheck
+    wrote h now f =
+        let g = le-leb (sheetLength p a r) (length out) h in
+        answers (Wrote (sheetLength p a r)) now (rw (e, g))
+        (f ∙ rw (e, g) (ap (λ (n : ℕ). sheetOf p a r ++ drop n out) (sym (written-length p a r))))
 
     -- accepted bodies have lengths that two bytes hold
     pub bounded : (length p < 65536) × (length a < 65536) × (length r < 65536)

@@ -81,3 +81,7 @@ noBodies = record {
 abbrev pub reported : Read → Reading
 reported (Accepted b) = record { number = 0; place = 0; bodies = b }
 reported (Refused r) = record { number = numberOf r; place = placeOf r; bodies = noBodies }
+
+-- what a call of the reader reports for every list of bytes
+abbrev pub readingOf : List ℕ → Reading
+readingOf s = reported (readOf s)

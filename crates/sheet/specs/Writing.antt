@@ -68,3 +68,7 @@ pub record Writing : Type 0 where
 abbrev pub reportedWriting : Written → Writing
 reportedWriting (Wrote n) = record { number = 0; place = 0; length = n }
 reportedWriting (Declined r) = record { number = numberOf r; place = placeOf r; length = 0 }
+
+-- what a call of the writer reports for every three bodies and every output
+abbrev pub writingOf : List ℕ → List ℕ → List ℕ → ℕ → Writing
+writingOf p a r room = reportedWriting (writtenOf p a r room)

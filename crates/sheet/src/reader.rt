@@ -13,7 +13,7 @@ use crate::rule::check_rule;
 ghost use mathlib.Core.Path.{_≡_};
 ghost use Prim.Native.Nat.{_+_, _≤_, _<_};
 ghost use Rattle.sheet.specs.Contents.{headingRight, entryIs, contentsRight, planBody, actionsBody, ruleBody};
-ghost use Rattle.sheet.specs.Reading.{bodiesCheck, sheetCheck, bodiesOf, readOf};
+ghost use Rattle.sheet.specs.Reading.{bodiesCheck, sheetCheck, bodiesOf, readOf, reported, readingOf};
 
 fn heading_right(s: &[u8]) -> bool
     ensures { λ r. ⌜ r ≡ headingRight (now (s .entry)) ⌝ }
@@ -135,6 +135,7 @@ fn bodies_of(sheet: &[u8]) -> Bodies
 // Number, place, and each body's offset and length.
 pub fn read(sheet: &[u8]) -> Read
     ensures { λ r. ⌜ r ≡ readOf (now (sheet .entry)) ⌝ }
+    ensures { λ r. ⌜ reported r ≡ readingOf (now (sheet .entry)) ⌝ }
 {
     let checked = check(sheet);
     match checked {

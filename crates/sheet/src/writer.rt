@@ -8,7 +8,7 @@ ghost use Prim.Native.Nat.{_+_, _≤_, _<_};
 ghost use mathlib.Core.List.{_++_};
 ghost use lib.ListN.{length, drop};
 ghost use lib.Seq.{paste};
-ghost use Rattle.sheet.specs.Writing.{head, sheetOf, sheetLength, Room, writtenOf, outputAfter};
+ghost use Rattle.sheet.specs.Writing.{head, sheetOf, sheetLength, Room, writtenOf, reportedWriting, writingOf, outputAfter};
 
 // The first 17 bytes of a sheet whose bodies have these lengths.
 fn head_of(p: usize, a: usize, r: usize) -> [u8; 17]
@@ -63,6 +63,7 @@ fn put_sheet(p: &[u8], a: &[u8], r: &[u8], out: &mut [u8])
 
 pub fn write(plan: &[u8], actions: &[u8], rule: &[u8], out: &mut [u8]) -> Written
     ensures { λ r. ⌜ r ≡ writtenOf (now (plan .entry)) (now (actions .entry)) (now (rule .entry)) (length (now (out .entry))) ⌝ }
+    ensures { λ r. ⌜ reportedWriting r ≡ writingOf (now (plan .entry)) (now (actions .entry)) (now (rule .entry)) (length (now (out .entry))) ⌝ }
     ensures { λ _. ⌜ now (out .exit) ≡ outputAfter (now (plan .entry)) (now (actions .entry)) (now (rule .entry)) (now (out .entry)) ⌝ }
 {
     let checked = check_bodies(plan, actions, rule);

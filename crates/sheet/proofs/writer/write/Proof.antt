@@ -3,7 +3,7 @@ use borrow.Author.Needs.{needs}
 use native.Mathlib.Omega.{arith}
 use mathlib.Core.Path.{sym, ap, _∙_}
 use denote.Ref.{now}
-use Rattle.sheet.proofs.WriteSteps.{declined, short, wrote, output, bounded, roomy}
+use Rattle.sheet.proofs.WriteSteps.{declined, short, wrote, bounded, roomy}
 use Rattle.sheet.proofs.writer.write.Statement.{statement}
 use Rattle.sheet.proofs.writer.write.Tie as tie
 
@@ -38,10 +38,9 @@ same-length : tie.Need-same-length
 same-length c = search needs
 
 returns-3 : tie.Need-returns-3
-returns-3 c = let a = c .before .before .before .before .before .before .before .before .before .before .before .before .args in (
-  wrote (now (a .plan)) (now (a .actions)) (now (a .rule)) (now (a .out)) (sym (c .before .before .before .before .before .before .before .check-bodies .ensures) ∙ c .before .before .before .before .before .enum-told .given .1) (omega arith),
-  output (now (a .plan)) (now (a .actions)) (now (a .rule)) (now (a .out)) (sym (c .before .before .before .before .before .before .before .check-bodies .ensures) ∙ c .before .before .before .before .before .enum-told .given .1) (omega arith) _ (c .before .before .put-sheet .ensures),
-)
+returns-3 c =
+    let a = c .before .before .before .before .before .before .before .before .before .before .before .before .args in
+    wrote (now (a .plan)) (now (a .actions)) (now (a .rule)) (now (a .out)) (sym (c .before .before .before .before .before .before .before .check-bodies .ensures) ∙ c .before .before .before .before .before .enum-told .given .1) (omega arith) _ (c .before .before .put-sheet .ensures)
 
 pub write-spec : {M : Type 1} → statement M
 write-spec =

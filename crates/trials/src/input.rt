@@ -1,0 +1,78 @@
+// Operands from standard input: a byte, a 16-bit word, a blob.
+use libc::STDIN_FILENO;
+ghost use Prim.Native.Nat.{_≤_};
+ghost use lib.ListN.{length};
+
+pub enum Byte {
+    Got(u8),
+    Ended,
+}
+
+// A word, or a blob by its length.
+pub enum Word {
+    Got(u16),
+    Ended,
+}
+
+fn word_of(low: u8, high: u8) -> u16 {
+    low as u16 + 256 * (high as u16)
+}
+
+pub fn read_byte() -> Byte {
+    let mut one = [0u8; 1];
+    let n = io::read_full(STDIN_FILENO, &mut one);
+    if n < 1 {
+        return Byte::Ended;
+    }
+    Byte::Got(one[0])
+}
+
+pub fn read_word() -> Word {
+    let mut two = [0u8; 2];
+    let n = io::read_full(STDIN_FILENO, &mut two);
+    if n < 2 {
+        return Word::Ended;
+    }
+    Word::Got(word_of(two[0], two[1]))
+}
+
+fn read_start(buf: &mut [u8], n: usize) -> usize
+    requires { ⌜ n ≤ length (now buf) ⌝ }
+{
+    io::read_full(STDIN_FILENO, &mut buf[0..n])
+}
+
+// n bytes, put at the start of buf.
+pub fn read_bytes(buf: &mut [u8; 65536], n: u16) -> Word {
+    let got = read_start(buf, n as usize);
+    if got < n as usize {
+        return Word::Ended;
+    }
+    Word::Got(n)
+}
+
+// A blob: its length, and its bytes at the start of buf.
+pub fn read_blob(buf: &mut [u8; 65536]) -> Word {
+    let length = read_word();
+    match length {
+        Word::Got(n) => read_bytes(buf, n),
+        Word::Ended => Word::Ended,
+    }
+}
+
+// The first n bytes of buf.
+pub fn part(buf: &[u8; 65536], n: u16) -> &[u8] {
+    let k = n as usize;
+    let whole = &buf[..];
+    &whole[0..k]
+}
+
+// Sets the first n bytes of buf to b.
+pub fn fill(buf: &mut [u8; 65536], n: u16, b: u8) {
+    let k = n as usize;
+    let mut i = 0;
+    while i < k {
+        buf[i] = b;
+        i += 1;
+    }
+}

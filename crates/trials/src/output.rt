@@ -1,0 +1,92 @@
+// Lines of words on standard output.
+use libc::STDOUT_FILENO;
+use sheet::Refusal;
+ghost use Prim.Native.Nat.{_+_, _<_, _≤_};
+ghost use lib.ListN.{length};
+
+pub fn text(s: &[u8]) {
+    io::write_all(STDOUT_FILENO, s);
+}
+
+// A space and a number.
+pub fn number(n: u64) {
+    text(b" ");
+    io::print_decimal(STDOUT_FILENO, n);
+}
+
+pub fn end_line() {
+    text(b"\n");
+}
+
+// The number and the place of an accepted call.
+pub fn accepted() {
+    text(b" 0 0");
+}
+
+pub fn refused(r: Refusal) {
+    number(r.number() as u64);
+    number(r.place() as u64);
+}
+
+fn digit(d: u8) -> u8
+    requires { ⌜ d < 16 ⌝ }
+{
+    if d < 10 { b'0' + d } else { b'a' + (d - 10) }
+}
+
+fn high(b: u8) -> u8 {
+    digit(b / 16)
+}
+
+fn low(b: u8) -> u8 {
+    digit(b % 16)
+}
+
+// How many of the bytes left are written at once.
+fn chunk(left: usize) -> usize
+    requires { ⌜ 0 < left ⌝ }
+    ensures { λ r. ⌜ (0 < r) × ((r ≤ left) × (r ≤ 2048)) ⌝ }
+{
+    if left < 2048 { left } else { 2048 }
+}
+
+// Puts the digits of n bytes of s from index `from` on at the start of digits.
+fn spell(s: &[u8], from: usize, n: usize, digits: &mut [u8; 4096])
+    requires { ⌜ (from + n ≤ length (now s)) × (n ≤ 2048) ⌝ }
+{
+    let mut i = 0;
+    while i < n {
+        let b = s[from + i];
+        digits[2 * i] = high(b);
+        digits[2 * i + 1] = low(b);
+        i += 1;
+    }
+}
+
+fn text_start(digits: &[u8; 4096], n: usize)
+    requires { ⌜ n ≤ 4096 ⌝ }
+{
+    let whole = &digits[..];
+    text(&whole[0..n]);
+}
+
+// Writes at most 2,048 bytes of s from index `from` on, and answers how many.
+fn hex_part(s: &[u8], from: usize) -> usize
+    requires { ⌜ from < length (now s) ⌝ }
+    ensures { λ r. ⌜ (0 < r) × (from + r ≤ length (now (s .entry))) ⌝ }
+{
+    let mut digits = io::buffer();
+    let n = chunk(s.len() - from);
+    spell(s, from, n, &mut digits);
+    text_start(&digits, 2 * n);
+    n
+}
+
+// A space and the bytes of s, two digits each.
+pub fn hex(s: &[u8]) {
+    text(b" ");
+    let mut from = 0;
+    while from < s.len() {
+        from += hex_part(s, from);
+    }
+}

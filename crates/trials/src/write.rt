@@ -1,0 +1,73 @@
+// Request 6: three blobs are written as a sheet.
+use crate::input;
+use crate::input::Byte;
+use crate::input::Word;
+use crate::output;
+use sheet::Written;
+ghost use Prim.Native.Nat.{_≤_};
+ghost use lib.ListN.{length};
+
+fn write_length(w: Written) {
+    output::text(b"write");
+    match w {
+        Written::Wrote(n) => {
+            output::accepted();
+            output::number(n as u64);
+        }
+        Written::Declined(r) => {
+            output::refused(r);
+            output::number(0);
+        }
+    }
+    output::end_line();
+}
+
+fn write(plan: &[u8], actions: &[u8], rule: &[u8], out: &mut [u8]) {
+    let w = sheet::writer::write(plan, actions, rule, out);
+    write_length(w);
+    output::text(b"out");
+    output::hex(out);
+    output::end_line();
+}
+
+fn write_start(plan: &[u8], actions: &[u8], rule: &[u8], buf: &mut [u8], n: usize)
+    requires { ⌜ n ≤ length (now buf) ⌝ }
+{
+    write(plan, actions, rule, &mut buf[0..n]);
+}
+
+// Lends the writer the first n bytes of buf.
+fn write_to(plan: &[u8], actions: &[u8], rule: &[u8], buf: &mut [u8; 65536], n: u16) {
+    write_start(plan, actions, rule, buf, n as usize);
+}
+
+pub fn answer() -> bool {
+    let mut plan = io::large_buffer();
+    let mut actions = io::large_buffer();
+    let mut rule = io::large_buffer();
+    let mut out = io::large_buffer();
+    let Word::Got(p) = input::read_blob(&mut plan) else {
+        return false;
+    };
+    let Word::Got(a) = input::read_blob(&mut actions) else {
+        return false;
+    };
+    let Word::Got(r) = input::read_blob(&mut rule) else {
+        return false;
+    };
+    let Word::Got(n) = input::read_word() else {
+        return false;
+    };
+    let Byte::Got(b) = input::read_byte() else {
+        return false;
+    };
+    input::fill(&mut out, n, b);
+    write_to(
+        input::part(&plan, p),
+        input::part(&actions, a),
+        input::part(&rule, r),
+        &mut out,
+        n,
+    );
+    true
+}

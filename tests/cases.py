@@ -1,0 +1,645 @@
+#!/usr/bin/env python3
+"""Requests 1 and 6 of the trial driver and what they must give, computed from document 01.
+
+    cases.py store STDIN STDOUT DIR   DIR/stdin and DIR/stdout: the given vectors, then the cases below
+    cases.py large DIR                longer and random cases, for a run that is not stored
+    cases.py check STDIN STDOUT       recomputes STDOUT from STDIN
+"""
+import random
+import sys
+from pathlib import Path
+
+# ---- document 01: the sheet
+
+
+class Refused(Exception):
+    def __init__(self, number, place=0):
+        self.number, self.place = number, place
+
+
+def word(b, at):
+    return b[at] | b[at + 1] << 8
+
+
+def triples(body, start):
+    return [tuple(body[i:i + 3]) for i in range(start, len(body), 3)]
+
+
+def check_plan(p):
+    """4 and 5; the number of actions"""
+    if len(p) < 4:
+        raise Refused(4)
+    s, a, t = p[0], p[1], word(p, 2)
+    if s < 1 or s > 128 or t > 2048 or len(p) != 4 + 3 * t:
+        raise Refused(4)
+    previous = None
+    for i, tr in enumerate(triples(p, 4)):
+        if tr[0] >= s or tr[1] >= a or tr[2] >= s or (previous is not None and tr <= previous):
+            raise Refused(5, i)
+        previous = tr
+    return a
+
+
+def check_actions(b, a):
+    """6 and 7; the number of entries"""
+    if len(b) == 0 or b[0] > 32 or len(b) != 1 + 3 * b[0]:
+        raise Refused(6)
+    for i, (kind, x, y) in enumerate(triples(b, 1)):
+        right = {
+            0: x == 0 and y == 0,
+            1: x == 0 and y == 0,
+            2: x < a and y == 0,
+            3: x < i and y < i,
+            4: x < i and y < i,
+            5: x < i and y == 0,
+        }
+        if not right.get(kind, False):
+            raise Refused(7, i)
+    return b[0]
+
+
+def check_syntax(nodes, count):
+    """9; the parents, None for the root. The work still to do is kept on a stack: a node to visit, or the second child of a pair to look for."""
+    parents = [None] * len(nodes)
+    at = 0                              # the node that comes next in preorder
+    work = [('visit', None)]
+    while work:
+        what, parent = work.pop()
+        if what == 'second':
+            if nodes[parent][2] != at or at >= len(nodes):
+                raise Refused(9, parent)
+            work.append(('visit', parent))
+            continue
+        n, at = at, at + 1
+        parents[n] = parent
+        kind, x, y = nodes[n]
+        if kind in (0, 1):
+            right, children = x == 0 and y == 0, 0
+        elif kind in (2, 3):
+            right, children = x == at, 2
+        elif kind in (4, 5):
+            right, children = x < count and y == at, 1
+        elif kind == 6:
+            right, children = y == 0, 0
+        elif kind in (7, 8):
+            right, children = y == at, 1
+        else:
+            right, children = False, 0
+        if not right or (children > 0 and at >= len(nodes)):
+            raise Refused(9, n)
+        if children == 2:
+            work.append(('second', n))
+        if children > 0:
+            work.append(('visit', n))
+    if at < len(nodes):
+        raise Refused(9, at)
+    return parents
+
+
+def check_binding(nodes, parents):
+    """10"""
+    binders = []                        # the node that binds each variable
+    for n, (kind, x, y) in enumerate(nodes):
+        if kind in (7, 8):
+            if x != len(binders) or len(binders) == 6:
+                raise Refused(10, n)
+            binders.append(n)
+        elif kind == 6:
+            above, up = [], parents[n]
+            while up is not None:
+                above.append(up)
+                up = parents[up]
+            if x >= len(binders) or binders[x] not in above:
+                raise Refused(10, n)
+
+
+def check_rule(r, count):
+    if len(r) == 0 or r[0] < 1 or r[0] > 64 or len(r) != 1 + 3 * r[0]:
+        raise Refused(8)
+    nodes = triples(r, 1)
+    check_binding(nodes, check_syntax(nodes, count))
+
+
+def check_bodies(p, a, r):
+    check_rule(r, check_actions(a, check_plan(p)))
+
+
+def read_sheet(s):
+    """offset and length of each body"""
+    if len(s) < 17:
+        raise Refused(1)
+    if s[0] != 1 or s[1] != 3:
+        raise Refused(2)
+    parts, at = [], 17
+    for k in range(3):
+        entry = 2 + 5 * k
+        offset, length = word(s, entry + 1), word(s, entry + 3)
+        if s[entry] != k + 1 or offset != at:
+            raise Refused(3)
+        parts += [offset, length]
+        at += length
+    if len(s) != at or len(s) > 6455:
+        raise Refused(3)
+    o1, l1, o2, l2, o3, l3 = parts
+    check_bodies(s[o1:o1 + l1], s[o2:o2 + l2], s[o3:o3 + l3])
+    return parts
+
+
+def two(n):
+    return bytes([n & 255, n >> 8])
+
+
+def sheet_of(p, a, r):
+    """the three bodies behind their table of contents, right or not"""
+    head, at = bytes([1, 3]), 17
+    for k, body in enumerate((p, a, r)):
+        head += bytes([k + 1]) + two(at) + two(len(body))
+        at += len(body)
+    return head + p + a + r
+
+
+def write_sheet(p, a, r, size):
+    check_bodies(p, a, r)
+    s = sheet_of(p, a, r)
+    if size < len(s):
+        raise Refused(22)
+    return s
+
+
+# ---- the requests
+
+
+class Cut(Exception):
+    pass
+
+
+def answers(stream):
+    """what a stream of requests gives"""
+    at = 0
+
+    def take(n):
+        nonlocal at
+        if at + n > len(stream):
+            raise Cut
+        at += n
+        return stream[at - n:at]
+
+    def blob():
+        return take(word(take(2), 0))
+
+    def one(request):
+        if request == 1:
+            sheet = blob()
+            try:
+                row = [0, 0] + read_sheet(sheet)
+            except Refused as f:
+                row = [f.number, f.place] + [0] * 6
+            return 'read %s\n' % ' '.join(map(str, row))
+        if request == 6:
+            p, a, r = blob(), blob(), blob()
+            size, fill = word(take(2), 0), take(1)
+            out = fill * size
+            try:
+                sheet = write_sheet(p, a, r, size)
+                out = sheet + out[len(sheet):]
+                row = [0, 0, len(sheet)]
+            except Refused as f:
+                row = [f.number, f.place, 0]
+            return 'write %s\nout %s\n' % (' '.join(map(str, row)), out.hex())
+        raise Cut
+
+    text = []
+    try:
+        while True:
+            text.append(one(take(1)[0]))
+    except Cut:
+        return ''.join(text).encode()
+
+
+def blob_of(b):
+    return two(len(b)) + bytes(b)
+
+
+def read_request(s):
+    return b'\x01' + blob_of(s)
+
+
+def write_request(p, a, r, size, fill):
+    return b'\x06' + blob_of(p) + blob_of(a) + blob_of(r) + two(size) + bytes([fill])
+
+
+# ---- bodies
+
+
+def plan(states, actions, transitions):
+    return bytes([states, actions]) + two(len(transitions)) + bytes(x for t in transitions for x in t)
+
+
+def table(*entries):
+    return bytes([len(entries)]) + bytes(x for e in entries for x in e)
+
+
+rule = table
+
+K_PLAN = plan(3, 3, [(0, 1, 1), (1, 2, 2)])
+K_ACTIONS = table((2, 0, 0), (2, 1, 0), (2, 2, 0))
+K_RULE = rule((7, 0, 1), (2, 2, 4), (4, 2, 3), (1, 0, 0), (2, 5, 7), (4, 0, 6), (6, 0, 0), (7, 1, 8), (2, 9, 10), (6, 0, 0), (4, 1, 11), (6, 1, 0))
+K = sheet_of(K_PLAN, K_ACTIONS, K_RULE)
+
+LEAST_PLAN, LEAST_ACTIONS, LEAST_RULE = plan(1, 0, []), table(), rule((1, 0, 0))
+
+LONG_PLAN = plan(128, 255, [(i // 16, i % 16 * 17 - i % 16 // 15, (i * 5) % 128) for i in range(2048)])
+LONG_ACTIONS = table((2, 254, 0), (1, 0, 0), (0, 0, 0), (5, 2, 0), *[(3 + i % 2, i - 1, i - 3) for i in range(4, 31)], (3, 30, 30))
+LONG_RULE = rule(*[(7 + i % 2, i, i + 1) for i in range(6)], *[(4 + i % 2, i % 32, i + 1) for i in range(6, 61)], (3, 62, 63), (6, 5, 0), (6, 0, 0))
+
+
+def chain(n):
+    """n nodes, one below the other"""
+    return [(5, 0, i + 1) for i in range(n - 1)] + [(0, 0, 0)]
+
+
+def many(n):
+    """n transitions that rise, over 128 states and 16 actions"""
+    return [(i // 16, i % 16, 127 - i % 16) for i in range(n)]
+
+
+def set_at(b, at, value):
+    return b[:at] + bytes([value]) + b[at + 1:]
+
+
+# ---- the cases
+
+
+def heads():
+    """the table of contents"""
+    for n in (0, 1, 2, 15, 16, 17, 18, 36, 73):
+        yield K[:n]
+    yield K + b'\0'
+    yield b'\xff' * 16
+    yield b'\xff' * 17
+    yield sheet_of(b'', b'', b'')
+    yield set_at(sheet_of(b'', b'', b''), 0, 2)
+    yield set_at(sheet_of(b'', b'', b''), 1, 2)
+    for value in (0, 2, 3, 255):
+        yield set_at(K, 0, value)
+    for value in (0, 1, 2, 4, 255):
+        yield set_at(K, 1, value)
+    for at in range(2, 17):
+        for value in (0, K[at] ^ 1, K[at] ^ 128, 255):
+            if value != K[at]:
+                yield set_at(K, at, value)
+    # gaps, overlaps and exchanged bodies, each with the right length in all
+    yield K[:3] + two(18) + K[5:]
+    yield K[:2] + K[7:12] + K[2:7] + K[12:]
+    yield K[:8] + two(26) + two(11) + K[12:]
+    yield K[:13] + two(36) + two(38) + K[17:]
+    yield K[:10] + two(11) + K[12:13] + two(38) + two(36) + K[17:]
+    # sums that only agree modulo 65,536
+    for first, second in ((65535, 20), (65519, 65519), (10, 65535), (65529, 1)):
+        third = (len(K) - 17 - first - second) % 65536
+        yield K[:5] + two(first) + b'\2' + two((17 + first) % 65536) + two(second) + b'\3' + two((17 + first + second) % 65536) + two(third) + K[17:]
+    yield sheet_of(LONG_PLAN, LONG_ACTIONS, LONG_RULE)
+    yield sheet_of(LONG_PLAN, LONG_ACTIONS, LONG_RULE + b'\0')
+    yield sheet_of(K_PLAN, K_ACTIONS, K_RULE + b'\7' * (65535 - len(K)))
+
+
+def plans():
+    yield plan(1, 0, [])
+    yield plan(1, 1, [(0, 0, 0)])
+    for n in range(4):
+        yield b'\1\0\0\0'[:n]
+    for s in (0, 1, 127, 128, 129, 255):
+        yield plan(s, 0, [])
+        yield plan(s, 255, [(s - 1 & 255, 254, s - 1 & 255)])
+    yield plan(3, 0, [(0, 0, 0)])
+    yield plan(3, 255, [(0, 255, 0)])
+    # the count of transitions against the length
+    two_of = plan(3, 3, [(0, 1, 1), (1, 2, 2)])
+    for count in (0, 1, 3, 258, 512, 2048, 2049, 65535):
+        yield two_of[:2] + two(count) + two_of[4:]
+    yield two_of + b'\0'
+    yield two_of[:-1]
+    yield two_of[:-3]
+    yield plan(128, 255, many(256))
+    yield plan(128, 255, many(256))[:2] + b'\1\0' + plan(128, 255, many(256))[4:]
+    yield plan(128, 255, many(2049))
+    # a number out of its range, in each field and at each place
+    right = [(0, 0, 0), (1, 1, 1), (2, 2, 2)]
+    for i in range(3):
+        for field in range(3):
+            for value in (3, 255):
+                wrong = [list(t) for t in right]
+                wrong[i][field] = value
+                yield plan(3, 3, wrong)
+    # equal or falling in each field, and rising where an earlier field rises
+    for first, then in (((1, 1, 1), (1, 1, 1)), ((1, 1, 1), (0, 1, 1)), ((1, 1, 1), (0, 2, 2)), ((1, 1, 1), (1, 0, 1)), ((1, 1, 1), (1, 0, 2)), ((1, 1, 1), (1, 1, 0)),
+                        ((1, 1, 1), (2, 0, 0)), ((1, 1, 1), (1, 2, 0)), ((1, 1, 1), (1, 1, 2))):
+        yield plan(3, 3, [first, then])
+        yield plan(3, 3, [(0, 0, 0), first, then])
+        yield plan(3, 3, [first, then, (2, 2, 2)])
+    yield plan(3, 3, [(0, 0, 0), (0, 0, 0), (0, 0, 0)])
+    yield plan(3, 3, [(0, 0, 0), (0, 0, 0), (3, 0, 0)])
+    yield plan(3, 3, [(3, 0, 0), (0, 0, 0), (0, 0, 0)])
+    # places past 255
+    for at in (255, 256, 299):
+        yield plan(128, 16, many(300)[:at] + [(0, 0, 0)] + many(300)[at + 1:])
+    yield LONG_PLAN[:-3] + LONG_PLAN[-6:-3]
+
+
+def action_tables():
+    """for a plan with three actions"""
+    yield b''
+    yield table()
+    yield b'\1'
+    yield b'\0\0'
+    yield table((1, 0, 0))[:-1]
+    yield table((1, 0, 0)) + b'\0'
+    for n in (31, 32, 33, 85):
+        yield table(*[(1, 0, 0)] * n)
+    yield b'\x20' + bytes([0, 0, 0] * 31)
+    yield b'\xff' + bytes([0, 0, 0] * 255)
+    for kind in range(6):
+        for x in (0, 1, 2, 3, 255):
+            for y in (0, 1, 2, 255):
+                yield table((0, 0, 0), (1, 0, 0), (kind, x, y))
+    for kind in (2, 3, 4, 5, 6, 7, 128, 255):
+        yield table((kind, 0, 0))
+        yield table((1, 0, 0), (kind, 0, 0))
+    yield table(*[(1, 0, 0)] * 31, (5, 30, 0))
+    yield table(*[(1, 0, 0)] * 31, (5, 31, 0))
+    yield table(*[(1, 0, 0)] * 31, (3, 30, 31))
+    yield table((1, 0, 0), (5, 2, 0), (6, 0, 0))
+    yield table((1, 0, 0), (6, 0, 0), (0, 0, 0), (0, 1, 0))
+
+
+def rules():
+    """for three action entries"""
+    T, F = (1, 0, 0), (0, 0, 0)
+    yield b''
+    yield rule()
+    yield b'\1'
+    yield rule(T)[:-1]
+    yield rule(T) + b'\0'
+    for n in (1, 2, 63, 64, 65):
+        yield rule(*chain(n))
+    yield b'\xff' + bytes([0, 0, 0] * 255)
+    # each kind alone and above one leaf, with its fields right and wrong
+    for kind in range(9):
+        for x in (0, 1, 2, 3, 255):
+            for y in (0, 1, 2, 255):
+                yield rule((kind, x, y), T)
+        yield rule((kind, 0, 0))
+        yield rule((kind, 1, 0))
+        yield rule((kind, 0, 1))
+        yield rule((kind, 1, 2), T, T)
+    for kind in (9, 10, 128, 255):
+        yield rule((kind, 0, 0))
+        yield rule((kind, 0, 1), T)
+        yield rule((kind, 1, 2), T, T)
+    # pairs
+    for kind in (2, 3):
+        for x, y in ((1, 2), (0, 2), (2, 1), (2, 2), (1, 1), (1, 0), (1, 3), (1, 255), (255, 2)):
+            yield rule((kind, x, y), T, F)
+    for y in range(7):
+        yield rule((2, 1, y), (3, 2, 3), T, F, T)
+        yield rule((3, 1, 2), T, (2, 3, y), F, F)
+        yield rule((2, 1, 4), (3, 2, y), T, F, T)
+    # the second child's number after the first child's part: the first child's fault comes first, the second child's after
+    yield rule((2, 1, 9), (9, 0, 0), T)
+    yield rule((2, 1, 9), T, (9, 0, 0))
+    yield rule((2, 0, 2), (9, 0, 0), T)
+    yield rule((2, 1, 9), (3, 2, 9), T, T, (9, 0, 0))
+    yield rule((2, 1, 9), (3, 2, 9), (1, 1, 0), T, (9, 0, 0))
+    yield rule((2, 1, 9), (3, 2, 3), T, (1, 0, 1), T)
+    yield rule((2, 1, 9), (3, 2, 3), T, T, (1, 0, 1))
+    yield rule((2, 1, 4), (4, 0, 2), (4, 3, 3), T, (9, 0, 0))
+    yield rule((2, 1, 255), (7, 0, 2), (6, 0, 1), T)
+    # nodes left over
+    yield rule(T, T)
+    yield rule(T, (9, 9, 9))
+    yield rule(T, T, (9, 9, 9))
+    yield rule((4, 0, 1), T, T)
+    yield rule((2, 1, 2), T, T, T)
+    yield rule((2, 1, 2), T, T, (255, 255, 255), T)
+    yield rule(*chain(63), T)
+    yield rule(*chain(10), *chain(5))
+    yield rule(T, *[F] * 63)
+    # children that are missing
+    for kind in (4, 5, 7, 8):
+        yield rule((kind, 0, 1))
+        yield rule(T, (kind, 0, 2))
+        yield rule((4, 0, 1), (kind, 0, 2))
+        yield rule((2, 1, 2), T, (kind, 0, 3))
+    for kind in (2, 3):
+        for y in (0, 1, 2, 3):
+            yield rule((kind, 1, y))
+            yield rule((kind, 1, y), T)
+        yield rule((4, 0, 1), (kind, 2, 3))
+        yield rule((4, 0, 1), (kind, 2, 3), T)
+        yield rule((kind, 1, 3), (kind, 2, 3), T)
+        yield rule((kind, 1, 4), (kind, 2, 3), T, T)
+        yield rule((kind, 1, 2), T, (kind, 3, 4), T)
+    yield rule(*[(4, 0, i + 1) for i in range(64)])
+    # the full 64 nodes in pairs, leaning to either side
+    yield rule((4, 0, 1), *[(2, i + 1, 63 - (i - 1)) for i in range(1, 32)], *[T] * 32)
+    yield rule((4, 0, 1), *[t for i in range(31) for t in ((3, 2 * i + 2, 2 * i + 3), F)], F)
+    yield rule((4, 0, 1), *[(2, i + 1, 63 - (i - 1)) for i in range(1, 31)], (2, 32, 34), *[T] * 32)
+    yield rule((4, 0, 1), *[(2, i + 1, 63 - (i - 1)) for i in range(1, 32)], *[T] * 31, (1, 0, 1))
+    # binders
+    def nest(*numbers):
+        return [(7 + i % 2, k, i + 1) for i, k in enumerate(numbers)]
+    for n in range(1, 9):
+        for x in (0, n - 1, n):
+            yield rule(*nest(*range(n)), (6, x, 0))
+    for numbers in ((1,), (255,), (0, 0), (0, 2), (0, 1, 1), (0, 1, 3), (1, 0), (0, 1, 2, 3, 4, 6), (0, 1, 2, 3, 4, 5, 5), (0, 1, 2, 3, 4, 5, 7)):
+        yield rule(*nest(*numbers), T)
+    for second in (0, 1, 2):
+        yield rule((2, 1, 3), (7, 0, 2), (6, 0, 0), (8, second, 4), (6, second, 0))
+    six = [t for i in range(6) for t in ((2, 3 * i + 1, 3 * i + 3), (7, i, 3 * i + 2), (6, i, 0))]
+    yield rule(*six, T)
+    yield rule(*six, (7, 6, 19), T)
+    yield rule(*six, (7, 6, 19), (6, 6, 0))
+    # variables that do not stand below their binder
+    for x in (0, 1, 5, 6, 255):
+        yield rule((6, x, 0))
+        yield rule((4, 0, 1), (6, x, 0))
+        yield rule((2, 1, 3), (7, 0, 2), T, (6, x, 0))
+        yield rule((2, 1, 2), (6, x, 0), (7, 0, 3), T)
+        yield rule((2, 1, 3), (7, 0, 2), (6, x, 0), (7, 1, 4), (6, 0, 0))
+        yield rule((2, 1, 3), (7, 0, 2), (6, 0, 0), (7, 1, 4), (6, x, 0))
+        yield rule((7, 0, 1), (2, 2, 4), (7, 1, 3), (6, 0, 0), (6, x, 0))
+        yield rule((7, 0, 1), (2, 2, 3), (6, x, 0), (8, 1, 4), (6, 1, 0))
+        yield rule((7, 0, 1), (3, 2, 4), (8, 1, 3), T, (7, 2, 5), (6, x, 0))
+    # two faults of binding, and one of syntax after one of binding
+    yield rule((2, 1, 2), (6, 1, 0), (6, 0, 0))
+    yield rule((2, 1, 2), (6, 1, 0), (6, 0, 1))
+    yield rule((7, 1, 1), (7, 1, 2), (9, 0, 0))
+    yield rule((7, 1, 1), (6, 0, 0), T)
+    yield rule(*nest(*range(7)), (6, 0, 0), T)
+
+
+def bodies():
+    """triples of bodies, around one that is tried"""
+    leaf = rule((1, 0, 0))
+    for p in plans():
+        yield p, table(), leaf
+    for a in action_tables():
+        yield K_PLAN, a, leaf
+    for r in rules():
+        yield K_PLAN, K_ACTIONS, r
+    yield plan(1, 0, []), table((2, 0, 0)), leaf
+    yield plan(1, 255, []), table((2, 254, 0), (2, 255, 0)), leaf
+    yield K_PLAN, table(), rule((4, 0, 1), (1, 0, 0))
+    # faults in more than one body: the lowest number is given
+    sizes = (b'', b'', b'')
+    faults = (plan(3, 3, [(0, 0, 0), (0, 0, 0)]), table((1, 0, 0), (6, 0, 0)), rule((7, 1, 1), (1, 0, 0)))
+    syntax = (faults[0], faults[1], rule((4, 0, 1), (9, 0, 0)))
+    good = (K_PLAN, K_ACTIONS, K_RULE)
+    for p in (good[0], sizes[0], faults[0]):
+        for a in (good[1], sizes[1], faults[1]):
+            for r in (good[2], sizes[2], faults[2], syntax[2]):
+                yield p, a, r
+
+
+def writings():
+    """output buffers around the exact length, and the longest of all"""
+    for three in ((K_PLAN, K_ACTIONS, K_RULE), (LEAST_PLAN, LEAST_ACTIONS, LEAST_RULE)):
+        n = len(sheet_of(*three))
+        for size in (0, 17, n - 1, n, n + 1, n + 20):
+            for fill in (0, 165, 255):
+                yield *three, size, fill
+    for fill in (0, 255):
+        yield b'', b'', b'', 0, fill
+        yield b'', b'', b'', 40, fill
+    n = len(sheet_of(plan(128, 16, many(256)), K_ACTIONS, K_RULE))
+    yield plan(128, 16, many(256)), K_ACTIONS, K_RULE, n - 1, 3
+    yield plan(128, 16, many(256)), K_ACTIONS, K_RULE, n, 3
+    yield LONG_PLAN, LONG_ACTIONS, LONG_RULE, 6454, 7
+    yield LONG_PLAN, LONG_ACTIONS, LONG_RULE, 6455, 7
+    yield K_PLAN, K_ACTIONS, K_RULE + b'\7' * (65535 - len(K_RULE)), 3, 9
+    yield K_PLAN, K_ACTIONS, K_RULE, 65535, 90
+
+
+def accepted(p, a, r):
+    try:
+        check_bodies(p, a, r)
+        return True
+    except Refused:
+        return False
+
+
+def stored():
+    for s in heads():
+        yield read_request(s)
+    for i, (p, a, r) in enumerate(bodies()):
+        s = sheet_of(p, a, r)
+        yield read_request(s)
+        fill = (0, 165, 255)[i % 3]
+        if len(s) < 300 and accepted(p, a, r):
+            for size in (len(s) - 1, len(s), len(s) + 2):
+                yield write_request(p, a, r, size, fill)
+        elif len(s) < 300 and i % 3 == 0:
+            yield write_request(p, a, r, (0, 3, len(s))[i // 3 % 3], fill)
+    for w in writings():
+        yield write_request(*w)
+
+
+# an unknown request ends the run: what follows it gives nothing
+ENDING = b'\0' + read_request(K)
+
+
+def damaged(rng, b):
+    b = bytearray(b)
+    for _ in range(rng.choice((0, 1, 1, 2))):
+        if b:
+            at = rng.randrange(len(b))
+            b[at] = rng.choice((b[at] ^ 1, b[at] + 1 & 255, b[at] - 1 & 255, 0, rng.randrange(10), rng.randrange(256)))
+    if rng.random() < 0.03:
+        b = b[:rng.randrange(len(b) + 1)]
+    return bytes(b)
+
+
+def random_rule(rng, most):
+    nodes = []
+    binders = []
+
+    def grow(budget, above):
+        n = len(nodes)
+        nodes.append(None)
+        kind = rng.randrange(9)
+        if budget < 2 or (budget < 3 and kind in (2, 3)):
+            kind = rng.choice((0, 1, 6))
+        if kind == 6 and not above:
+            kind = 1
+        if kind in (7, 8) and len(binders) >= 6 and rng.random() < 0.9:
+            kind = rng.choice((4, 5))
+        if kind in (0, 1):
+            nodes[n] = (kind, 0, 0)
+        elif kind == 6:
+            nodes[n] = (6, rng.choice(above), 0)
+        elif kind in (2, 3):
+            left = rng.randrange(1, budget - 1)
+            grow(left, above)
+            second = len(nodes)
+            grow(budget - 1 - left, above)
+            nodes[n] = (kind, n + 1, second)
+        elif kind in (4, 5):
+            grow(budget - 1, above)
+            nodes[n] = (kind, rng.randrange(3), n + 1)
+        else:
+            k = len(binders)
+            binders.append(n)
+            grow(budget - 1, above + [k])
+            nodes[n] = (kind, k, n + 1)
+
+    grow(most, [])
+    return rule(*nodes)
+
+
+def large():
+    full = b'\3' * 65535
+    yield write_request(full, full, full, 65535, 200)
+    yield write_request(K_PLAN, full, full, 65535, 201)
+    yield write_request(LONG_PLAN, LONG_ACTIONS, LONG_RULE, 65535, 202)
+    yield read_request(full)
+    rng = random.Random(1)
+    for _ in range(4000):
+        p = plan(5, 6, sorted({(rng.randrange(5), rng.randrange(6), rng.randrange(5)) for _ in range(rng.randrange(8))}))
+        a = table((2, rng.randrange(6), 0), (1, 0, 0), (rng.choice((3, 4)), 1, 0), (5, 2, 0))
+        r = random_rule(rng, rng.choice((1, 3, 10, 30, 64)))
+        p, a, r = (damaged(rng, b) if rng.random() < 0.4 else b for b in (p, a, r))
+        s = sheet_of(p, a, r)
+        yield read_request(damaged(rng, s) if rng.random() < 0.2 else s)
+        if rng.random() < 0.3:
+            yield write_request(p, a, r, max(0, len(s) + rng.randrange(-2, 3)), rng.randrange(256))
+
+
+def main(args):
+    if args[:1] == ['check'] and len(args) == 3:
+        given, found = Path(args[2]).read_bytes(), answers(Path(args[1]).read_bytes())
+        if given == found:
+            print('the same')
+            return 0
+        for i, (x, y) in enumerate(zip(given.split(b'\n'), found.split(b'\n'))):
+            if x != y:
+                print('line', i + 1, 'given', x[:100], 'computed', y[:100])
+                return 1
+        print('one is longer:', len(given), len(found))
+        return 1
+    if args[:1] == ['store'] and len(args) == 4:
+        vectors = Path(args[1]).read_bytes()
+        own = b''.join(stored()) + ENDING
+        Path(args[3], 'stdin').write_bytes(vectors + own)
+        Path(args[3], 'stdout').write_bytes(Path(args[2]).read_bytes() + answers(own))
+        return 0
+    if args[:1] == ['large'] and len(args) == 2:
+        stream = b''.join(large())
+        Path(args[1], 'stdin').write_bytes(stream + read_request(K)[:-1])
+        Path(args[1], 'stdout').write_bytes(answers(stream))
+        return 0
+    print(__doc__)
+    return 2
+
+
+if __name__ == '__main__':
+    sys.exit(main(sys.argv[1:]))
