@@ -19,3 +19,4 @@ pub mod NodeSteps
 pub mod PartSteps
 pub mod SheetSteps
 pub mod WriteSteps
+pub mod Promises

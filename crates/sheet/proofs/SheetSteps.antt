@@ -7,10 +7,11 @@ use lib.ListN.{length}
 use lib.Dec.{eqb, leb}
 use borrow.Author.Tests.{eq-eqb, ne-eqb, lt-leb, le-leb}
 use Rattle.sheet.specs.Bytes.{byte, word}
+use Rattle.sheet.specs.Refusals.{reportedCheck}
 use Rattle.sheet.specs.Contents.{headingRight, headLength, longest, entryIs, actionsOffset, ruleOffset, ruleLength, contentsRight, planBody, actionsBody, ruleBody}
 use Rattle.sheet.specs.Plan.{actionCount}
 use Rattle.sheet.specs.Actions.{entryCount}
-use Rattle.sheet.specs.Reading.{planCheck, actionsCheck, ruleCheck, bodiesCheck, sheetCheck, readOf, bodiesOf, reported, readingOf}
+use Rattle.sheet.specs.Reading.{planCheck, actionsCheck, ruleCheck, bodiesCheck, sheetCheck, readOf, bodiesOf, answerRead, reported, report, readingOf}
 use Rattle.sheet.specs.declared.Refusal.{Refusal}
 use Rattle.sheet.specs.declared.Refusal.the-variants.{TooShort, Heading, Contents}
 use Rattle.sheet.specs.declared.Check.{Check}
@@ -87,7 +88,15 @@ module _ (s : List ℕ) where
 
 -- an answer and what it reports
 pub answered : (s : List ℕ) (r : Read) → r ≡ readOf s → (r ≡ readOf s) × (reported r ≡ readingOf s)
-answered s r e = (e, ap reported e)
+unfolding readOf readingOf
+answered s r e = (e, ap reported e ∙ go (sheetCheck s))
+  where
+    go : (c : Check) → reported (answerRead (bodiesOf s) c) ≡ report (bodiesOf s) c
+    go Passed = refl
+    go (Failed x) = refl
+
+pub checked : (s : List ℕ) (c : Check) → c ≡ sheetCheck s → (c ≡ sheetCheck s) × (reportedCheck c ≡ reportedCheck (sheetCheck s))
+checked s c e = (e, ap reportedCheck e)
 
 module _ (p a r : List ℕ) where
   pub bodies-plan : (x : Refusal) → planCheck p ≡ Failed x → Failed x ≡ bodiesCheck p a r

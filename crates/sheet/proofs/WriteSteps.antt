@@ -9,9 +9,10 @@ use borrow.Author.Tests.{le-leb, lt-leb}
 use Rattle.sheet.specs.Contents.{headLength}
 use Rattle.sheet.specs.Rules.{BodiesKept}
 use Rattle.sheet.specs.Reading.{bodiesCheck}
-use Rattle.sheet.specs.Writing.{head, sheetOf, sheetLength, Room, writeCheck, writtenOf, reportedWriting, writingOf, outputAfter}
+use Rattle.sheet.specs.Writing.{head, sheetOf, sheetLength, Room, writeCheck, writtenOf, answerWritten, reportedWriting, reportWriting, writingOf, outputAfter}
 use Rattle.sheet.specs.declared.Refusal.{Refusal}
 use Rattle.sheet.specs.declared.Refusal.the-variants.{OutputShort}
+use Rattle.sheet.specs.declared.Check.{Check}
 use Rattle.sheet.specs.declared.Check.the-variants.{Passed, Failed}
 use Rattle.sheet.specs.declared.Written.{Written}
 use Rattle.sheet.specs.declared.Written.the-variants.{Wrote, Declined}
@@ -37,7 +38,12 @@ module _ (p a r out : List ℕ) where
       (w ≡ writtenOf p a r (length out)) × ((reportedWriting w ≡ writingOf p a r (length out)) × (now ≡ outputAfter p a r out))
 
   answers : (w : Written) (now : List ℕ) → w ≡ writtenOf p a r (length out) → now ≡ outputAfter p a r out → Answers w now
-  answers w now e f = (e, (ap reportedWriting e, f))
+  unfolding writtenOf writingOf
+  answers w now e f = (e, (ap reportedWriting e ∙ go (writeCheck p a r (length out)), f))
+    where
+      go : (c : Check) → reportedWriting (answerWritten (sheetLength p a r) c) ≡ reportWriting (sheetLength p a r) c
+      go Passed = refl
+      go (Failed x) = refl
 
   pub copied : (one two three four : List ℕ) → one ≡ paste out 0 (head (length p) (length a) (length r)) 17 → two ≡ paste one 17 p (length p) → three ≡ paste two (17 + length p) a (length a) → four ≡ paste three (17 + length p + length a) r (length r) → four ≡ sheetOf p a r ++ drop (sheetLength p a r) out
   unfolding sheetOf

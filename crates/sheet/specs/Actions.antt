@@ -1,4 +1,4 @@
--- Document 01, "Kind 2, action formulas". The definitions speak of the body's bytes; actions is A, the plan's number of actions.
+-- Document 01, "Kind 2, action formulas". What they mean ("Not" is taken among the A actions) is in the crate calculus. The definitions speak of the body's bytes; actions is A, the plan's number of actions.
 use Prim.Native.Nat.{ℕ, _+_, _*_}
 use mathlib.Core.Bool.{Bool, false, not, _&&_}
 use mathlib.Core.List.{List}

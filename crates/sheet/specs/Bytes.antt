@@ -12,9 +12,9 @@ byte s i = getD s i 0
 abbrev pub word : List ℕ → ℕ → ℕ
 word s i = byte s i + 256 * byte s (i + 1)
 
--- the length bytes from offset on
+-- the size bytes from offset on, or as many as there are
 abbrev pub part : List ℕ → ℕ → ℕ → List ℕ
-part s offset length = take length (drop offset s)
+part s offset size = take size (drop offset s)
 
 abbrev pub pick : {A : Type 0} → Bool → A → A → A
 pick true x y = x

@@ -1,4 +1,4 @@
--- Document 01, "Kind 1, plan": a labelled transition system. The definitions speak of the body's bytes.
+-- Document 01, "Kind 1, plan": a labelled transition system. "States that nothing leads to are allowed": no rule speaks of them. The definitions speak of the body's bytes.
 use Prim.Native.Nat.{ℕ, zero, suc, _+_, _*_}
 use mathlib.Core.Bool.{Bool, true, not, _&&_, _||_}
 use mathlib.Core.List.{List}

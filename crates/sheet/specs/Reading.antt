@@ -64,8 +64,8 @@ answerRead b (Failed r) = Refused r
 unfoldable pub readOf : List ℕ → Read
 readOf s = answerRead (bodiesOf s) (sheetCheck s)
 
--- What each answer reports: number, place, and each body's offset and length. "A refused call gives offsets and lengths 0. An accepted call
--- gives number 0 and place 0."
+-- What each answer reports: number, place, and each body's offset and length. On a refusal "offsets, lengths .. 0"; "An accepted call gives number 0
+-- and place 0."
 pub record Reading : Type 0 where
   pub number : ℕ
   pub place : ℕ
@@ -82,6 +82,10 @@ abbrev pub reported : Read → Reading
 reported (Accepted b) = record { number = 0; place = 0; bodies = b }
 reported (Refused r) = record { number = numberOf r; place = placeOf r; bodies = noBodies }
 
--- what a call of the reader reports for every list of bytes
-abbrev pub readingOf : List ℕ → Reading
-readingOf s = reported (readOf s)
+-- what the reader reports for every list of bytes
+abbrev pub report : Bodies → Check → Reading
+report b Passed = record { number = 0; place = 0; bodies = b }
+report b (Failed r) = record { number = numberOf r; place = placeOf r; bodies = noBodies }
+
+unfoldable pub readingOf : List ℕ → Reading
+readingOf s = report (bodiesOf s) (sheetCheck s)

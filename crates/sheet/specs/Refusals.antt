@@ -25,7 +25,8 @@ numberOf TableShort = 20
 numberOf TableByte = 21
 numberOf OutputShort = 22
 
--- "The place is the lowest faulty transition, entry or node for 5, 7, 10; for 9 the first fault met in preorder. Other places are 0."
+-- "The place is the lowest faulty transition, entry or node for 5, 7, 10; for 9 the first fault met in preorder, a second child's number being looked
+-- at after the first child's part, a node left over being faulty itself, a missing child the fault of its parent. Other places are 0."
 abbrev pub placeOf : Refusal → ℕ
 placeOf TooShort = 0
 placeOf Heading = 0
@@ -52,3 +53,12 @@ require kept r = pick kept Passed (Failed r)
 abbrev pub andThen : Check → Check → Check
 andThen Passed next = next
 andThen (Failed r) next = Failed r
+
+-- what a check reports: "An accepted call gives number 0 and place 0."
+pub record CheckReport : Type 0 where
+  pub number : ℕ
+  pub place : ℕ
+
+abbrev pub reportedCheck : Check → CheckReport
+reportedCheck Passed = record { number = 0; place = 0 }
+reportedCheck (Failed r) = record { number = numberOf r; place = placeOf r }

@@ -26,7 +26,8 @@ nodeY r n = byte r (3 + 3 * n)
 unfoldable pub ruleSized : List ℕ → Bool
 ruleSized r = leb 1 (length r) && (leb 1 (nodeCount r) && (leb (nodeCount r) 64 && eqb (length r) (1 + 3 * nodeCount r)))
 
--- "0 F, 1 T, 2 or, 3 and (children x, y), 4 some (diamond), 5 every (box), 6 variable x, 7 least, 8 greatest fixed point"
+-- "The reader takes a different course for each kind of node: 0 F, 1 T, 2 or, 3 and (children x, y), 4 some (diamond), 5 every (box) (x an action
+-- entry below the count, y the child), 6 variable x, 7 least, 8 greatest fixed point (x the variable bound, y the child)."
 pub data Shape : Type 0 where
   leaf pair modal variable binder unknown : Shape
 
@@ -36,18 +37,18 @@ shapeOf k =
 
 -- ---- refusal 9: "a node's kind, field or child number"
 
--- node c can be a child that stands at its place: it is the node that the place rule names, and the rule has it
+-- the child number c is the node expected there, and the rule has that node
 abbrev pub childIs : List ℕ → ℕ → ℕ → Bool
-childIs r c place = eqb c place && ltb place (nodeCount r)
+childIs r c expected = eqb c expected && ltb expected (nodeCount r)
 
--- "a second child the first node after the first child's part": after the first child's part, or its fault
+-- "a second child the first node after the first child's part": a fault in the first child's part stands; else y must be the node where that part ended
 abbrev pub second : (ℕ → Extent) → List ℕ → ℕ → Extent → Extent
 second go r n (Faulty m) = Faulty m
 second go r n (Ends e) = pick (childIs r (nodeY r n) e) (go e) (Faulty n)
 
--- The part of node n, where go gives the part of a later node: the node after it, or the first fault met in preorder.
--- "A first or only child is the next node"; unused fields are 0; the entry of a modality is below the count; a second child's number is looked at
--- after the first child's part; a missing child is the fault of its parent.
+-- The part of node n, where go gives the part of a later node: the node after it, or the first fault met in preorder. "A first or only child is the
+-- next node"; "Unused fields are 0"; the entry of a modality is below the count; "a second child's number being looked at after the first child's
+-- part"; "a missing child the fault of its parent". The x of a variable and of a binder is left to refusal 10.
 abbrev pub course : (ℕ → Extent) → ℕ → List ℕ → ℕ → Shape → Extent
 course go entries r n leaf = pick (eqb (nodeX r n) 0 && eqb (nodeY r n) 0) (Ends (n + 1)) (Faulty n)
 course go entries r n pair = pick (childIs r (nodeX r n) (n + 1)) (second go r n (go (n + 1))) (Faulty n)
@@ -56,12 +57,12 @@ course go entries r n variable = pick (eqb (nodeY r n) 0) (Ends (n + 1)) (Faulty
 course go entries r n binder = pick (childIs r (nodeY r n) (n + 1)) (go (n + 1)) (Faulty n)
 course go entries r n unknown = Faulty n
 
--- the part of node n; depth is at least the number of nodes from n on
+-- the part of node n; depth is at least the number of nodes from n on, so that it never runs out
 unfoldable pub extent : ℕ → ℕ → List ℕ → ℕ → Extent
 extent zero entries r n = Faulty n
 extent (suc depth) entries r n = course (extent depth entries r) entries r n (shapeOf (nodeKind r n))
 
--- the first fault met in preorder, or N: "nothing follows the root's part", and a node left over is faulty itself
+-- the first fault met in preorder: "nothing follows the root's part", "a node left over being faulty itself"; N where there is none
 abbrev pub firstFault : Extent → ℕ
 firstFault (Faulty m) = m
 firstFault (Ends e) = e
@@ -77,7 +78,7 @@ isBinder r n = leb 7 (nodeKind r n) && ltb (nodeKind r n) 9
 abbrev pub oneIf : Bool → ℕ
 oneIf b = pick b 1 0
 
--- how many binders stand among the nodes below n
+-- how many of the nodes 0 to n - 1 are binders
 unfoldable pub bindersBefore : List ℕ → ℕ → ℕ
 bindersBefore r zero = 0
 bindersBefore r (suc n) = bindersBefore r n + oneIf (isBinder r n)
@@ -93,8 +94,8 @@ bindsAt r k n = isBinder r n && eqb (bindersBefore r n) k
 unfoldable pub binderNode : List ℕ → ℕ → ℕ
 binderNode r k = lowest (bindsAt r k) (nodeCount r)
 
--- The first node after node n's part: after its last child's part, and a node with no child is its whole part.
--- depth is the number of nodes that are looked at; 64 is always enough.
+-- The first node after node n's part: after its last child's part, and a node with no child is its whole part. It is meant for a rule that refusals
+-- 8 and 9 let pass: there a depth of 64 nodes is enough. On other bytes it has a value too, which means nothing.
 abbrev pub endCourse : (ℕ → ℕ) → List ℕ → ℕ → Shape → ℕ
 endCourse go r n leaf = n + 1
 endCourse go r n pair = go (nodeY r n)
@@ -128,7 +129,7 @@ bindingFaulty r n = bindingWrong r n (shapeOf (nodeKind r n))
 abbrev pub lowestBinding : List ℕ → ℕ
 lowestBinding r = lowest (bindingFaulty r) (nodeCount r)
 
--- how many of the binders among the nodes below b stand above node n
+-- how many of the nodes 0 to b - 1 are binders that node n stands below
 unfoldable pub aboveAmong : List ℕ → ℕ → ℕ → ℕ
 aboveAmong r n zero = 0
 aboveAmong r n (suc b) = aboveAmong r n b + oneIf (isBinder r b && below r b n)

@@ -51,8 +51,8 @@ pub record ActionsKept (actions : ℕ) (a : List ℕ) : Type 0 where
 
 -- ---- rule
 
--- The nodes from n up to e are the part of node n: "Nodes stand in preorder: a first or only child is the next node, a second child the first
--- node after the first child's part." Fields as "The reader takes a different course for each kind of node" says; unused fields are 0.
+-- The nodes from n up to e are the part of node n. "Nodes stand in preorder, node 0 the root: a first or only child is the next node, a second child the
+-- first node after the first child's part". "Unused fields are 0." That e is at most N is said where the part is used: past its end a body reads as 0.
 pub data Part (entries : ℕ) (r : List ℕ) : ℕ → ℕ → Type 0 where
   constant : {n : ℕ} → nodeKind r n ≤ 1 → nodeX r n ≡ 0 → nodeY r n ≡ 0 → Part entries r n (suc n)
   variable : {n : ℕ} → nodeKind r n ≡ 6 → nodeY r n ≡ 0 → Part entries r n (suc n)
@@ -84,7 +84,7 @@ pub record RuleKept (entries : ℕ) (r : List ℕ) : Type 0 where
   pub some-nodes : 1 ≤ nodeCount r
   pub few-nodes : nodeCount r ≤ 64
   pub exact : length r ≡ 1 + 3 * nodeCount r
-  -- "node 0 the root; nothing follows the root's part"
+  -- node 0 is the root, and "nothing follows the root's part"
   pub whole : Part entries r 0 (nodeCount r)
   -- "Binders (kinds 7, 8), in preorder, bind variables 0, 1, 2 and so on"
   pub binder-numbers : (n : ℕ) → n < nodeCount r → isBinder r n ≡ true → nodeX r n ≡ bindersBefore r n

@@ -19,7 +19,7 @@ twoBytes n rest = n % 256 ∷ n / 256 % 256 ∷ rest
 
 -- "three entries of 5 bytes: kind (1 byte), offset (16 bits), length (16 bits)"
 abbrev pub contentsEntry : ℕ → ℕ → ℕ → List ℕ → List ℕ
-contentsEntry kind offset length rest = kind ∷ twoBytes offset (twoBytes length rest)
+contentsEntry kind offset size rest = kind ∷ twoBytes offset (twoBytes size rest)
 
 -- edition, number of entries and the table of contents for bodies of these lengths
 abbrev pub head : ℕ → ℕ → ℕ → List ℕ
@@ -45,8 +45,8 @@ unfoldable pub writeCheck : List ℕ → List ℕ → List ℕ → ℕ → Check
 writeCheck p a r room = andThen (bodiesCheck p a r) (require (leb (sheetLength p a r) room) OutputShort)
 
 abbrev pub answerWritten : ℕ → Check → Written
-answerWritten length Passed = Wrote length
-answerWritten length (Failed r) = Declined r
+answerWritten size Passed = Wrote size
+answerWritten size (Failed r) = Declined r
 
 unfoldable pub writtenOf : List ℕ → List ℕ → List ℕ → ℕ → Written
 writtenOf p a r room = answerWritten (sheetLength p a r) (writeCheck p a r room)
@@ -59,16 +59,20 @@ leaves sheet out (Failed r) = out
 unfoldable pub outputAfter : List ℕ → List ℕ → List ℕ → List ℕ → List ℕ
 outputAfter p a r out = leaves (sheetOf p a r) out (writeCheck p a r (length out))
 
--- what each answer reports: number, place and length
+-- what each answer reports: number, place and the length of the sheet written
 pub record Writing : Type 0 where
   pub number : ℕ
   pub place : ℕ
-  pub length : ℕ
+  pub size : ℕ
 
 abbrev pub reportedWriting : Written → Writing
-reportedWriting (Wrote n) = record { number = 0; place = 0; length = n }
-reportedWriting (Declined r) = record { number = numberOf r; place = placeOf r; length = 0 }
+reportedWriting (Wrote n) = record { number = 0; place = 0; size = n }
+reportedWriting (Declined r) = record { number = numberOf r; place = placeOf r; size = 0 }
 
--- what a call of the writer reports for every three bodies and every output
-abbrev pub writingOf : List ℕ → List ℕ → List ℕ → ℕ → Writing
-writingOf p a r room = reportedWriting (writtenOf p a r room)
+-- what the writer reports for every three bodies and every output
+abbrev pub reportWriting : ℕ → Check → Writing
+reportWriting n Passed = record { number = 0; place = 0; size = n }
+reportWriting n (Failed r) = record { number = numberOf r; place = placeOf r; size = 0 }
+
+unfoldable pub writingOf : List ℕ → List ℕ → List ℕ → ℕ → Writing
+writingOf p a r room = reportWriting (sheetLength p a r) (writeCheck p a r room)

@@ -12,6 +12,7 @@ use crate::plan::check_plan;
 use crate::rule::check_rule;
 ghost use mathlib.Core.Path.{_≡_};
 ghost use Prim.Native.Nat.{_+_, _≤_, _<_};
+ghost use Rattle.sheet.specs.Refusals.{reportedCheck};
 ghost use Rattle.sheet.specs.Contents.{headingRight, entryIs, contentsRight, planBody, actionsBody, ruleBody};
 ghost use Rattle.sheet.specs.Reading.{bodiesCheck, sheetCheck, bodiesOf, readOf, reported, readingOf};
 
@@ -71,7 +72,7 @@ pub(crate) fn check_bodies(p: &[u8], a: &[u8], r: &[u8]) -> Check
     }
 }
 
-// The three bodies, as the table of contents places them.
+// The bodies of an accepted sheet: from 17 on, one after another, by the lengths that the table of contents states. These do not check the sheet.
 pub fn plan_body(sheet: &[u8]) -> &[u8]
     ensures { λ r. ⌜ now r ≡ planBody (now (sheet .entry)) ⌝ }
 {
@@ -97,6 +98,7 @@ pub fn rule_body(sheet: &[u8]) -> &[u8]
 // Refusals 1 to 10.
 pub fn check(sheet: &[u8]) -> Check
     ensures { λ c. ⌜ c ≡ sheetCheck (now (sheet .entry)) ⌝ }
+    ensures { λ c. ⌜ reportedCheck c ≡ reportedCheck (sheetCheck (now (sheet .entry))) ⌝ }
 {
     if sheet.len() < 17 {
         return Check::Failed(Refusal::TooShort);

@@ -3,24 +3,24 @@ use borrow.Author.Needs.{needs}
 use native.Mathlib.Omega.{arith}
 use mathlib.Core.Path.{sym, ap, _∙_}
 use borrow.Author.Tests.{not-true, not-false}
-use Rattle.sheet.proofs.SheetSteps.{sheet-short, sheet-headed, sheet-contents, sheet-bodies}
+use Rattle.sheet.proofs.SheetSteps.{checked, sheet-short, sheet-headed, sheet-contents, sheet-bodies}
 use Rattle.sheet.proofs.reader.check.Statement.{statement}
 use Rattle.sheet.proofs.reader.check.Tie as tie
 
 returns : tie.Need-returns
-returns c = sheet-short _ (omega arith)
+returns c = checked _ _ (sheet-short _ (omega arith))
 
 heading-right-requires : tie.Need-heading-right-requires
 heading-right-requires c κs = search needs
 
 returns-2 : tie.Need-returns-2
-returns-2 c = sheet-headed _ (omega arith) (sym (c .before .heading-right .ensures) ∙ not-true _ (c .if2 .taken))
+returns-2 c = checked _ _ (sheet-headed _ (omega arith) (sym (c .before .heading-right .ensures) ∙ not-true _ (c .if2 .taken)))
 
 contents-right-requires : tie.Need-contents-right-requires
 contents-right-requires c κs = search needs
 
 returns-3 : tie.Need-returns-3
-returns-3 c = sheet-contents _ (omega arith) (sym (c .before .before .before .heading-right .ensures) ∙ not-false _ (c .before .before .if2 .left)) (sym (c .before .contents-right .ensures) ∙ not-true _ (c .if3 .taken))
+returns-3 c = checked _ _ (sheet-contents _ (omega arith) (sym (c .before .before .before .heading-right .ensures) ∙ not-false _ (c .before .before .if2 .left)) (sym (c .before .contents-right .ensures) ∙ not-true _ (c .if3 .taken)))
 
 plan-body-requires : tie.Need-plan-body-requires
 plan-body-requires c κs = search needs
@@ -35,8 +35,8 @@ check-bodies-requires : tie.Need-check-bodies-requires
 check-bodies-requires c κs = search needs
 
 returns-4 : tie.Need-returns-4
-returns-4 c = rw (c .check-bodies .ensures, c .before .before .before .plan-body .ensures, c .before .before .actions-body .ensures, c .before .rule-body .ensures)
-    (sheet-bodies _ (omega arith) (sym (c .before .before .before .before .before .before .before .heading-right .ensures) ∙ not-false _ (c .before .before .before .before .before .before .if2 .left)) (sym (c .before .before .before .before .before .contents-right .ensures) ∙ not-false _ (c .before .before .before .before .if3 .left)))
+returns-4 c = checked _ _ (rw (c .check-bodies .ensures, c .before .before .before .plan-body .ensures, c .before .before .actions-body .ensures, c .before .rule-body .ensures)
+    (sheet-bodies _ (omega arith) (sym (c .before .before .before .before .before .before .before .heading-right .ensures) ∙ not-false _ (c .before .before .before .before .before .before .if2 .left)) (sym (c .before .before .before .before .before .contents-right .ensures) ∙ not-false _ (c .before .before .before .before .if3 .left))))
 
 pub check-spec : {M : Type 1} → statement M
 check-spec =

@@ -20,10 +20,10 @@ enum-known-checked : tie.Need-enum-known-checked
 enum-known-checked c = search needs
 
 returns : tie.Need-returns
-returns c = answered _ _ (ap Accepted (c .bodies-of .ensures) ∙ read-accepted _ (sym (c .before .before .before .check .ensures) ∙ c .before .enum-told .given .1))
+returns c = answered _ _ (ap Accepted (c .bodies-of .ensures) ∙ read-accepted _ (sym (c .before .before .before .check .ensures .0) ∙ c .before .enum-told .given .1))
 
 returns-2 : tie.Need-returns-2
-returns-2 c = answered _ _ (read-refused _ _ (sym (c .before .before .before .check .ensures) ∙ c .before .checked .given .1))
+returns-2 c = answered _ _ (read-refused _ _ (sym (c .before .before .before .check .ensures .0) ∙ c .before .checked .given .1))
 
 pub read-spec : {M : Type 1} → statement M
 read-spec =
