@@ -1,0 +1,54 @@
+-- The evaluator computes Table 1's meaning, for any number of states.
+use Prim.Native.Nat.{ℕ, _<_}
+use mathlib.Core.Path.{_≡_, refl, sym, _∙_}
+use mathlib.Core.Bool.{Bool, true, false, and-eq-true-iff, false≢true}
+use mathlib.Core.Logic.{_↔_, ⊎-map, Iff·trans, Iff·symm}
+use Rattle.calculus.specs.Formulas.{Formula, never, always, disj, conj, some, every, var, least, greatest}
+use Rattle.calculus.specs.Plans.{Plan, Wellformed}
+use Rattle.calculus.specs.Meaning.{Holds, bind}
+use Rattle.calculus.proofs.Eval.{eval}
+use Rattle.calculus.proofs.Modal.{or-true, some-true, every-true}
+use Rattle.calculus.proofs.Iterates.{least-closed, least-within, greatest-open, within-greatest}
+
+module _ {P : Plan} (w : Wellformed P) where
+  pub holds-eval : (φ : Formula) (ρ : ℕ → ℕ → Bool) (s : ℕ) → s < P .states → Holds P φ ρ s → eval P φ ρ s ≡ true
+  unfolding eval Holds
+  holds-eval never ρ s l h = absurd h
+  holds-eval always ρ s l h = refl
+  holds-eval (disj φ ψ) ρ s l h = or-true (eval P φ ρ s) (eval P ψ ρ s) .1 (⊎-map (holds-eval φ ρ s l) (holds-eval ψ ρ s l) h)
+  holds-eval (conj φ ψ) ρ s l h = and-eq-true-iff (eval P φ ρ s) (eval P ψ ρ s) .1 (holds-eval φ ρ s l (h .0), holds-eval ψ ρ s l (h .1))
+  holds-eval (some α φ) ρ s l h =
+      some-true P α s (eval P φ ρ) .1 (h .0, h .1, h .2, h .3, holds-eval φ ρ (h .0 .target) (w .target-below (h .0) (h .1)) (h .4))
+  holds-eval (every α φ) ρ s l h = every-true P α s (eval P φ ρ) .1 (λ t m o a. holds-eval φ ρ (t .target) (w .target-below t m) (h t m o a))
+  holds-eval (var X) ρ s l h = h
+  holds-eval (least X φ) ρ s l h =
+      h (eval P (least X φ) ρ) (λ t r k. least-closed w X φ ρ .at t r (holds-eval φ (bind ρ X (eval P (least X φ) ρ)) t r k))
+  holds-eval (greatest X φ) ρ s l h =
+      within-greatest w X φ ρ (record { at = λ t r u. holds-eval φ (bind ρ X (h .0)) t r (h .1 t r u) }) .at s l (h .2)
+
+  pub eval-holds : (φ : Formula) (ρ : ℕ → ℕ → Bool) (s : ℕ) → s < P .states → eval P φ ρ s ≡ true → Holds P φ ρ s
+  unfolding eval Holds
+  eval-holds never ρ s l e = absurd (false≢true e)
+  eval-holds always ρ s l e = tt
+  eval-holds (disj φ ψ) ρ s l e = ⊎-map (eval-holds φ ρ s l) (eval-holds ψ ρ s l) (or-true (eval P φ ρ s) (eval P ψ ρ s) .0 e)
+  eval-holds (conj φ ψ) ρ s l e = let k = and-eq-true-iff (eval P φ ρ s) (eval P ψ ρ s) .0 e in (eval-holds φ ρ s l (k .0), eval-holds ψ ρ s l (k .1))
+  eval-holds (some α φ) ρ s l e = let k = some-true P α s (eval P φ ρ) .0 e in
+      (k .0, k .1, k .2, k .3, eval-holds φ ρ (k .0 .target) (w .target-below (k .0) (k .1)) (k .4))
+  eval-holds (every α φ) ρ s l e = λ t m o a. eval-holds φ ρ (t .target) (w .target-below t m) (every-true P α s (eval P φ ρ) .0 e t m o a)
+  eval-holds (var X) ρ s l e = e
+  eval-holds (least X φ) ρ s l e = λ U h. least-within w X φ ρ (record { at = λ t r u. h t r (eval-holds φ (bind ρ X U) t r u) }) .at s l e
+  eval-holds (greatest X φ) ρ s l e = (eval P (greatest X φ) ρ, λ t r u. eval-holds φ (bind ρ X (eval P (greatest X φ) ρ)) t r (greatest-open w X φ ρ .at t r u), e)
+
+  pub decide : (φ : Formula) (ρ : ℕ → ℕ → Bool) (s : ℕ) → s < P .states → Holds P φ ρ s ↔ (eval P φ ρ s ≡ true)
+  decide φ ρ s l = (holds-eval φ ρ s l, eval-holds φ ρ s l)
+
+  -- What the evaluator says of two formulas, their meanings say.
+  pub holds-iff : (φ ψ : Formula) (ρ σ : ℕ → ℕ → Bool) (s : ℕ) → s < P .states → (eval P φ ρ s ≡ true) ↔ (eval P ψ σ s ≡ true) → Holds P φ ρ s ↔ Holds P ψ σ s
+  holds-iff φ ψ ρ σ s l h = Iff·trans (decide φ ρ s l) (Iff·trans h (Iff·symm (decide ψ σ s l)))
+
+  pub dec-holds : (φ : Formula) (ρ : ℕ → ℕ → Bool) (s : ℕ) → s < P .states → Dec (Holds P φ ρ s)
+  dec-holds φ ρ s l = go (eval P φ ρ s) refl
+    where
+      go : (b : Bool) → eval P φ ρ s ≡ b → Dec (Holds P φ ρ s)
+      go true e = yes (eval-holds φ ρ s l e)
+      go false e = no (λ h. false≢true (sym e ∙ holds-eval φ ρ s l h))

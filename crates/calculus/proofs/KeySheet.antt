@@ -1,0 +1,46 @@
+-- Document 01's key sheet K, decoded and judged by computing: P5's states by Table 1, P6's guard answer, and P4's exchange of the outer binder.
+use Prim.Native.Nat.{ℕ}
+use mathlib.Core.Path.{_≡_, refl}
+use mathlib.Core.Bool.{true, false}
+use mathlib.Core.List.{List, [], _∷_}
+use lib.Dec.{eqb}
+use Rattle.sheet.specs.Contents.{planBody, actionsBody, ruleBody}
+use Rattle.calculus.specs.Formulas.{only, always, disj, some, var, least, greatest}
+use Rattle.calculus.specs.Meaning.{meets}
+use Rattle.calculus.specs.Guarded.{guarded, guardedIn}
+use Rattle.calculus.specs.Decode.{transitionsFrom, planOf, actionWithin, formulaWithin, formula}
+use Rattle.calculus.specs.Verdict.{emptyContext}
+use Rattle.calculus.specs.Exchange.{exchangedFrom, exchanged}
+use Rattle.calculus.specs.Meeting.{maskUpTo, meetingMask}
+use Rattle.calculus.specs.Guard.{guardedRule}
+use Rattle.calculus.proofs.Eval.{eval, rounds, tabulate, table, any, leaves}
+
+abbrev pub K : List ℕ
+K =
+    1 ∷ 3 ∷ 1 ∷ 17 ∷ 0 ∷ 10 ∷ 0 ∷ 2 ∷ 27 ∷ 0 ∷ 10 ∷ 0 ∷ 3 ∷ 37 ∷ 0 ∷ 37 ∷ 0 ∷ 3 ∷ 3 ∷ 2 ∷ 0 ∷ 0 ∷ 1 ∷ 1 ∷ 1 ∷ 2 ∷ 2 ∷ 3 ∷ 2 ∷ 0 ∷ 0 ∷ 2 ∷ 1 ∷ 0 ∷ 2 ∷ 2 ∷ 0 ∷ 12 ∷ 7 ∷ 0 ∷ 1 ∷ 2 ∷ 2 ∷ 4 ∷ 4 ∷ 2 ∷ 3 ∷ 1 ∷ 0 ∷ 0 ∷ 2 ∷ 5 ∷ 7 ∷ 4 ∷ 0 ∷ 6 ∷ 6 ∷ 0 ∷ 0 ∷ 7 ∷ 1 ∷ 8 ∷ 2 ∷ 9 ∷ 10 ∷ 6 ∷ 0 ∷ 0 ∷ 4 ∷ 1 ∷ 11 ∷ 6 ∷ 1 ∷ 0 ∷ []
+
+pub K-plan : planOf (planBody K) ≡ record { states = 3; actions = 3; transitions = record { origin = 0; action = 1; target = 1 } ∷ record { origin = 1; action = 2; target = 2 } ∷ [] }
+unfolding transitionsFrom
+K-plan = refl
+
+-- the formula φ₁ of document 000, with c, a, b for the actions 2, 0, 1
+pub K-rule : formula (actionsBody K) (ruleBody K) 0 ≡ least 0 (disj (some (only 2) always) (disj (some (only 0) (var 0)) (least 1 (disj (var 0) (some (only 1) (var 1))))))
+unfolding formulaWithin actionWithin
+K-rule = refl
+
+pub K-states : table 3 (eval (planOf (planBody K)) (formula (actionsBody K) (ruleBody K) 0) emptyContext) ≡ true ∷ true ∷ false ∷ []
+unfolding eval rounds tabulate table any leaves meets transitionsFrom formulaWithin actionWithin
+K-states = refl
+
+pub K-unguarded : guardedRule K ≡ false
+unfolding guarded guardedIn formulaWithin actionWithin
+K-unguarded = refl
+
+pub K-exchanged : formula (actionsBody (exchanged (eqb 0) K)) (ruleBody (exchanged (eqb 0) K)) 0 ≡ greatest 0 (disj (some (only 2) always) (disj (some (only 0) (var 0)) (least 1 (disj (var 0) (some (only 1) (var 1))))))
+unfolding formulaWithin actionWithin exchanged exchangedFrom
+K-exchanged = refl
+
+-- action 1 meets entry 1 alone
+pub K-meeting : meetingMask 3 (actionsBody K) 1 ≡ 2
+unfolding meetingMask maskUpTo meets actionWithin
+K-meeting = refl

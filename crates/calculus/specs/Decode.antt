@@ -1,0 +1,98 @@
+-- The plan, the action formulas and the rule that the bodies of a sheet hold, in the terms of Table 1.
+use Prim.Native.Nat.{ℕ, zero, suc}
+use mathlib.Core.Bool.{Bool, true, false}
+use mathlib.Core.List.{List, [], _∷_}
+use lib.Dec.{ltb, eqb}
+use Rattle.sheet.specs.Bytes.{pick}
+use Rattle.sheet.specs.Plan.{stateCount, actionCount, transitionCount, origin, label, target}
+use Rattle.sheet.specs.Actions.{entryKind, entryX, entryY}
+use Rattle.sheet.specs.Rule.{nodeKind, nodeX, nodeY}
+use Rattle.calculus.specs.Formulas.{ActionFormula, nothing, anything, only, either, both, except, Formula, never, always, disj, conj, some, every, var, least, greatest}
+use Rattle.calculus.specs.Plans.{Transition, Plan}
+
+-- ---- document 01, "Kind 1, plan": S, A, "then T transitions of three bytes: from, action, to"
+
+abbrev pub transitionOf : List ℕ → ℕ → Transition
+transitionOf p i = record { origin = origin p i; action = label p i; target = target p i }
+
+-- count transitions from number i on, in plan order
+unfoldable pub transitionsFrom : List ℕ → ℕ → ℕ → List Transition
+transitionsFrom p zero i = []
+transitionsFrom p (suc count) i = transitionOf p i ∷ transitionsFrom p count (suc i)
+
+abbrev pub planOf : List ℕ → Plan
+planOf p = record { states = stateCount p; actions = actionCount p; transitions = transitionsFrom p (transitionCount p) 0 }
+
+-- ---- document 01, "Kind 2, action formulas"
+
+-- "Operands of 3, 4, 5 are entry numbers below their own": entry x as an operand, if it is below; any other number stands for no formula
+abbrev pub operand : (ℕ → ActionFormula) → ℕ → Bool → ActionFormula
+operand go x true = go x
+operand go x false = nothing
+
+-- "Kinds: 0 false, 1 true, 2 action x, 3 x or y, 4 x and y, 5 not x"
+pub data EntrySort : Type 0 where
+  falseEntry trueEntry actionEntry orEntry andEntry notEntry unknownEntry : EntrySort
+
+abbrev pub entrySort : ℕ → EntrySort
+entrySort k =
+    pick (eqb k 0) falseEntry
+    (pick (eqb k 1) trueEntry
+    (pick (eqb k 2) actionEntry (pick (eqb k 3) orEntry (pick (eqb k 4) andEntry (pick (eqb k 5) notEntry unknownEntry)))))
+
+-- the formula of entry e by its sort, where go gives the formulas of the entries before it
+abbrev pub entryFormula : (ℕ → ActionFormula) → List ℕ → ℕ → EntrySort → ActionFormula
+entryFormula go a e falseEntry = nothing
+entryFormula go a e trueEntry = anything
+entryFormula go a e actionEntry = only (entryX a e)
+entryFormula go a e orEntry = either (operand go (entryX a e) (ltb (entryX a e) e)) (operand go (entryY a e) (ltb (entryY a e) e))
+entryFormula go a e andEntry = both (operand go (entryX a e) (ltb (entryX a e) e)) (operand go (entryY a e) (ltb (entryY a e) e))
+entryFormula go a e notEntry = except (operand go (entryX a e) (ltb (entryX a e) e))
+entryFormula go a e unknownEntry = nothing
+
+-- the formula of entry e; depth is above e
+unfoldable pub actionWithin : ℕ → List ℕ → ℕ → ActionFormula
+actionWithin zero a e = nothing
+actionWithin (suc depth) a e = entryFormula (actionWithin depth a) a e (entrySort (entryKind a e))
+
+abbrev pub actionFormula : List ℕ → ℕ → ActionFormula
+actionFormula a e = actionWithin (suc e) a e
+
+-- ---- document 01, "Kind 3, rule"
+
+-- "0 F, 1 T, 2 or, 3 and, 4 some (diamond), 5 every (box), 6 variable x, 7 least, 8 greatest fixed point"
+pub data NodeSort : Type 0 where
+  falseNode trueNode orNode andNode someNode everyNode variableNode leastNode greatestNode unknownNode : NodeSort
+
+abbrev pub nodeSort : ℕ → NodeSort
+nodeSort k =
+    pick (eqb k 0) falseNode
+    (pick (eqb k 1) trueNode
+    (pick (eqb k 2) orNode
+    (pick (eqb k 3) andNode
+    (pick (eqb k 4) someNode
+    (pick (eqb k 5) everyNode
+    (pick (eqb k 6) variableNode (pick (eqb k 7) leastNode (pick (eqb k 8) greatestNode unknownNode))))))))
+
+-- The formula of node n by its sort, where go gives the formulas of nodes: "or, and (children x, y)", some and every "(x an action entry, y the
+-- child)", least and greatest "(x the variable bound, y the child)".
+abbrev pub nodeFormula : (ℕ → Formula) → List ℕ → List ℕ → ℕ → NodeSort → Formula
+nodeFormula go a r n falseNode = never
+nodeFormula go a r n trueNode = always
+nodeFormula go a r n orNode = disj (go (nodeX r n)) (go (nodeY r n))
+nodeFormula go a r n andNode = conj (go (nodeX r n)) (go (nodeY r n))
+nodeFormula go a r n someNode = some (actionFormula a (nodeX r n)) (go (nodeY r n))
+nodeFormula go a r n everyNode = every (actionFormula a (nodeX r n)) (go (nodeY r n))
+nodeFormula go a r n variableNode = var (nodeX r n)
+nodeFormula go a r n leastNode = least (nodeX r n) (go (nodeY r n))
+nodeFormula go a r n greatestNode = greatest (nodeX r n) (go (nodeY r n))
+nodeFormula go a r n unknownNode = never
+
+-- the formula at node n; depth is at least the number of nodes of its part
+unfoldable pub formulaWithin : ℕ → List ℕ → List ℕ → ℕ → Formula
+formulaWithin zero a r n = never
+formulaWithin (suc depth) a r n = nodeFormula (formulaWithin depth a r) a r n (nodeSort (nodeKind r n))
+
+-- the formula at node n of the rule r over the action formulas a; a rule has at most 64 nodes
+abbrev pub formula : List ℕ → List ℕ → ℕ → Formula
+formula a r n = formulaWithin 64 a r n

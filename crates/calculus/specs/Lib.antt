@@ -1,0 +1,10 @@
+pub mod Formulas
+pub mod Plans
+pub mod Meaning
+pub mod Guarded
+pub mod Decode
+pub mod Verdict
+pub mod Exchange
+pub mod Meeting
+pub mod Guard
+pub mod Carried

@@ -1,0 +1,15 @@
+-- Document 01: "Table 1's verdict at s is true exactly when s is in the meaning of the rule."
+use Prim.Native.Nat.{ℕ}
+use mathlib.Core.Bool.{Bool, false}
+use mathlib.Core.List.{List}
+use Rattle.sheet.specs.Contents.{planBody, actionsBody, ruleBody}
+use Rattle.calculus.specs.Meaning.{Holds}
+use Rattle.calculus.specs.Decode.{planOf, formula}
+
+-- the context that gives every variable the empty set; the rule of a sheet has no free variable
+abbrev pub emptyContext : ℕ → ℕ → Bool
+emptyContext X t = false
+
+-- Table 1's verdict of the sheet s at a state
+unfoldable pub Verdict : List ℕ → ℕ → Type 0
+Verdict s state = Holds (planOf (planBody s)) (formula (actionsBody s) (ruleBody s) 0) emptyContext state
