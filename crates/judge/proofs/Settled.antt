@@ -1,0 +1,119 @@
+-- After as many rounds as there are states, a state is settled exactly when no loop can be reached from it.
+use mathlib.Core.Bool.{Bool, true, false, _&&_, _||_, true≢false}
+use mathlib.Core.List.{List, [], _∷_, List·Memᴰ, List·Memᴰ·head, List·Memᴰ·tail, List·Memᴰ·not-nil, List·Memᴰ·cases-cons}
+use mathlib.Core.Logic.{_⊎_, inl, inr, _↔_}
+use mathlib.Core.Path.{_≡_, refl, sym, ap, subst, _∙_}
+use Prim.Native.Nat.{ℕ, zero, suc, _+_, _≤_, _<_}
+use native.Mathlib.Omega.{arith}
+use lib.Dec.{eqb}
+use borrow.Author.Tests.{eqb-true}
+use Rattle.judge.specs.Tables.{count}
+use Rattle.judge.specs.Loops.{every, Way, last, first, Loop, ReachesLoop, settled}
+use Rattle.judge.proofs.Bytes.{bit, count-le, count-one, count-sum}
+
+pub every-mem : (p : ℕ → Bool) (l : List ℕ) (t : ℕ) → every p l ≡ true → List·Memᴰ t l → p t ≡ true
+unfolding every
+every-mem p [] t h m = absurd (List·Memᴰ·not-nil m)
+every-mem p (x ∷ l) t h m = go (p x) refl h (List·Memᴰ·cases-cons m) (λ q. every-mem p l t q)
+  where
+    go : (b : Bool) → p x ≡ b → (b && every p l) ≡ true → (t ≡ x) ⊎ List·Memᴰ t l → (every p l ≡ true → List·Memᴰ t l → p t ≡ true) → p t ≡ true
+    go true e h (inl q) rest = ap p q ∙ e
+    go true e h (inr n) rest = rest h n
+    go false e h c rest = absurd (true≢false (sym h))
+
+pub every-all : (p : ℕ → Bool) (l : List ℕ) → ((t : ℕ) → List·Memᴰ t l → p t ≡ true) → every p l ≡ true
+unfolding every
+every-all p [] h = refl
+every-all p (x ∷ l) h = rw (h x (List·Memᴰ·head refl)) (every-all p l (λ t m. h t (List·Memᴰ·tail m)))
+
+pub every-find : (p : ℕ → Bool) (l : List ℕ) → every p l ≡ false → (t : ℕ) × List·Memᴰ t l × (p t ≡ false)
+unfolding every
+every-find p [] h = absurd (true≢false h)
+every-find p (x ∷ l) h = go (p x) refl h (λ q. every-find p l q)
+  where
+    go : (b : Bool) → p x ≡ b → (b && every p l) ≡ false → (every p l ≡ false → (t : ℕ) × List·Memᴰ t l × (p t ≡ false)) → (t : ℕ) × List·Memᴰ t (x ∷ l) × (p t ≡ false)
+    go true e h rest = let r : (t : ℕ) × List·Memᴰ t l × (p t ≡ false) = rest h in (r .0, List·Memᴰ·tail (r .1), r .2)
+    go false e h rest = (x, List·Memᴰ·head refl, e)
+
+-- one number more in a set
+adding : (ℕ → Bool) → ℕ → ℕ → Bool
+adding p s u = eqb s u || p u
+
+count-adding : (n : ℕ) (p : ℕ → Bool) (s : ℕ) → s < n → p s ≡ false → count n (adding p s) ≡ suc (count n p)
+unfolding adding
+count-adding n p s h out = omega (arith, count-one n s h, count-sum n (eqb s) p (adding p s) (λ i l. go i (eqb s i) refl))
+  where
+    go : (i : ℕ) (b : Bool) → eqb s i ≡ b → bit (eqb s i) + bit (p i) ≡ bit (eqb s i || p i)
+    go i true e = rw (e, sym (ap p (eqb-true s i e)) ∙ out)
+    go i false e = rw e (omega arith)
+
+module _ (next : ℕ → List ℕ) where
+  pub settled-next : (r s t : ℕ) → settled next (suc r) s ≡ true → List·Memᴰ t (next s) → settled next r t ≡ true
+  unfolding settled
+  settled-next r s t h m = every-mem (λ t. settled next r t) (next s) t h m
+
+  pub settled-zero : (s : ℕ) → settled next 0 s ≡ true → ⊥
+  unfolding settled
+  settled-zero s h = true≢false (sym h)
+
+  -- a way leads from a settled state to one settled in an earlier round
+  pub settled-way : (r : ℕ) {s t : ℕ} → settled next r s ≡ true → Way next s t → (q : ℕ) × (q < r) × (settled next q t ≡ true)
+  settled-way zero {s} h w = absurd (settled-zero s h)
+  settled-way (suc r) h (last {s = s} {t = t} m) = (r, omega arith, settled-next r s t h m)
+  settled-way (suc r) h (first {s = s} {u = u} m w) = let e : (q : ℕ) × (q < r) × (settled next q _ ≡ true) = settled-way r (settled-next r s u h m) w in (e .0, omega (arith, e .1), e .2)
+
+  pub settled-no-loop : (r s : ℕ) → settled next r s ≡ true → Loop next s → ⊥
+  settled-no-loop r s h w = go (suc r) r (omega arith) h
+    where
+      go : (b r : ℕ) → r < b → settled next r s ≡ true → ⊥
+      go zero r l h = omega arith
+      go (suc b) r l h = let e : (q : ℕ) × (q < r) × (settled next q s ≡ true) = settled-way r h w in go b (e .0) (omega (arith, e .1)) (e .2)
+
+  pub settled-reaches-none : (r s : ℕ) → settled next r s ≡ true → ReachesLoop next s → ⊥
+  settled-reaches-none r s h (inl w) = settled-no-loop r s h w
+  settled-reaches-none r s h (inr e) = let q : (q : ℕ) × (q < r) × (settled next q (e .0) ≡ true) = settled-way r h (e .1) in settled-no-loop (q .0) (e .0) (q .2) (e .2)
+
+  snoc : {s t u : ℕ} → Way next s t → List·Memᴰ u (next t) → Way next s u
+  snoc (last m) n = first m (last n)
+  snoc (first m w) n = first m (snoc w n)
+
+  reaches-back : (s t : ℕ) → List·Memᴰ t (next s) → ReachesLoop next t → ReachesLoop next s
+  reaches-back s t m (inl w) = inr (t, last m, w)
+  reaches-back s t m (inr e) = inr (e .0, first m (e .1), e .2)
+
+  module _ (S : ℕ) (inside : (s : ℕ) → s < S → (t : ℕ) → List·Memᴰ t (next s) → t < S) where
+    -- `passed` holds the states of the way so far
+    abbrev Through : ℕ → Type 0
+    Through r = (s : ℕ) (passed : ℕ → Bool) → ((u : ℕ) → passed u ≡ true → Way next u s) → S ≤ r + count S passed → s < S → settled next r s ≡ false → ReachesLoop next s
+
+    unsettled : (r : ℕ) → Through r
+    unfolding settled adding
+    unsettled zero s passed ways enough h e = go (passed s) refl
+      where
+        go : (b : Bool) → passed s ≡ b → ReachesLoop next s
+        go true p = inl (ways s p)
+        go false p = absurd (omega (arith, count-adding S passed s h p, count-le S (adding passed s)))
+    unsettled (suc r) s passed ways enough h e = go (passed s) refl (unsettled r)
+      where
+        find : (t : ℕ) × List·Memᴰ t (next s) × (settled next r t ≡ false)
+        find = every-find (λ t. settled next r t) (next s) e
+
+        ways-on : (u : ℕ) (b : Bool) → eqb s u ≡ b → (b || passed u) ≡ true → Way next u (find .0)
+        ways-on u true q p = subst (λ (v : ℕ). Way next v (find .0)) (eqb-true s u q) (last (find .1))
+        ways-on u false q p = snoc (ways u p) (find .1)
+
+        go : (b : Bool) → passed s ≡ b → Through r → ReachesLoop next s
+        go true p rest = inl (ways s p)
+        go false p rest =
+            reaches-back s (find .0) (find .1)
+            (rest (find .0) (adding passed s) (λ u q. ways-on u (eqb s u) refl q) (omega (arith, count-adding S passed s h p)) (inside s h (find .0) (find .1)) (find .2))
+
+    pub settled-or-loop : (s : ℕ) → s < S → settled next S s ≡ false → ReachesLoop next s
+    settled-or-loop s h e = unsettled S s (λ u. false) (λ u q. absurd (true≢false (sym q))) (omega arith) h e
+
+    pub settled-exactly : (s : ℕ) → s < S → (settled next S s ≡ true) ↔ (ReachesLoop next s → ⊥)
+    settled-exactly s h = (settled-reaches-none S s, λ none. go (settled next S s) refl none)
+      where
+        go : (b : Bool) → settled next S s ≡ b → (ReachesLoop next s → ⊥) → settled next S s ≡ true
+        go true e none = e
+        go false e none = absurd (none (settled-or-loop s h e))

@@ -1,0 +1,101 @@
+-- Document 01, "Rows": the cells of a sheet, their rows and their places in the table. The definitions speak of the bytes of the sheet's
+-- three bodies: p the plan, a the action formulas, r the rule.
+use Prim.Native.Nat.{ℕ, zero, suc, _+_, _*_, _-_, _/_, _%_}
+use mathlib.Core.Bool.{Bool, true, false, not, _&&_, _||_}
+use mathlib.Core.List.{List, [], _∷_}
+use lib.Dec.{eqb, ltb}
+use Rattle.sheet.specs.Bytes.{pick}
+use Rattle.sheet.specs.Plan.{stateCount, actionCount}
+use Rattle.sheet.specs.Rule.{nodeCount, nodeKind, nodeX, nodeY, binderCount, binderNode}
+use Rattle.calculus.specs.Plans.{Transition}
+use Rattle.calculus.specs.Meaning.{meets}
+use Rattle.calculus.specs.Decode.{planOf, actionFormula, NodeSort, falseNode, trueNode, orNode, andNode, someNode, everyNode, variableNode, leastNode, greatestNode, unknownNode, nodeSort}
+use Rattle.judge.specs.Rows.{Row, disjunction, conjunction}
+use Rattle.judge.specs.Tables.{constant}
+use Rattle.judge.specs.Loops.{settled}
+
+-- "A cell is (mark, node, state). Mark 0: no binder is open. Mark k + 1: binder k and the binders below it are open."
+pub record Cell : Type 0 where
+  pub mark : ℕ
+  pub node : ℕ
+  pub state : ℕ
+
+abbrev pub cell : ℕ → ℕ → ℕ → Cell
+cell m n s = record { mark = m; node = n; state = s }
+
+-- a row with one entry: "or" and "and" of one cell are the same
+abbrev pub only : Cell → Row Cell
+only c = record { connective = disjunction; entries = c ∷ [] }
+
+-- "(0, child, s') for each transition from s to s' whose action meets the formula, in plan order": of the transitions in a list
+unfoldable pub following : ℕ → List ℕ → ℕ → ℕ → ℕ → List Transition → List Cell
+following A a e child s [] = []
+following A a e child s (t ∷ ts) =
+    pick (eqb (t .origin) s && meets A (actionFormula a e) (t .action)) (cell 0 child (t .target) ∷ following A a e child s ts)
+    (following A a e child s ts)
+
+-- "under k + 1 if m = 0, else under m"
+abbrev pub opened : ℕ → ℕ → ℕ
+opened k zero = suc k
+opened k (suc m) = suc m
+
+-- "if m = 0 or k < m - 1": variable k stands for its binder's cell, and is no constant
+abbrev pub outer : ℕ → ℕ → Bool
+outer k zero = true
+outer k (suc m) = ltb k m
+
+-- "an empty "or" for a least, an empty "and" for a greatest fixed point", by the kind of the binder's node
+abbrev pub bottomOf : List ℕ → ℕ → Row Cell
+bottomOf r b = constant (eqb (nodeKind r b) 8)
+
+module _ (p a r : List ℕ) where
+  -- "For node n at s under mark m the row is": by the kind of n
+  abbrev pub rowOf : Cell → NodeSort → Row Cell
+  -- "F: empty "or". T: empty "and"."
+  rowOf c falseNode = constant false
+  rowOf c trueNode = constant true
+  -- "or, and: the two children, same m, same s."
+  rowOf c orNode = record { connective = disjunction; entries = cell (c .mark) (nodeX r (c .node)) (c .state) ∷ cell (c .mark) (nodeY r (c .node)) (c .state) ∷ [] }
+  rowOf c andNode = record { connective = conjunction; entries = cell (c .mark) (nodeX r (c .node)) (c .state) ∷ cell (c .mark) (nodeY r (c .node)) (c .state) ∷ [] }
+  -- "some, every: an "or" or an "and" of (0, child, s') for each transition from s to s' whose action meets the formula, in plan order."
+  rowOf c someNode = record { connective = disjunction; entries = following (actionCount p) a (nodeX r (c .node)) (nodeY r (c .node)) (c .state) (planOf p .transitions) }
+  rowOf c everyNode = record { connective = conjunction; entries = following (actionCount p) a (nodeX r (c .node)) (nodeY r (c .node)) (c .state) (planOf p .transitions) }
+  -- "variable k: if m = 0 or k < m - 1, the cell (0, node of binder k, s); else an empty "or" for a least, an empty "and" for a greatest fixed point."
+  rowOf c variableNode = pick (outer (nodeX r (c .node)) (c .mark)) (only (cell 0 (binderNode r (nodeX r (c .node))) (c .state))) (bottomOf r (binderNode r (nodeX r (c .node))))
+  -- "binder k: the child at s, under k + 1 if m = 0, else under m."
+  rowOf c leastNode = only (cell (opened (nodeX r (c .node)) (c .mark)) (nodeY r (c .node)) (c .state))
+  rowOf c greatestNode = only (cell (opened (nodeX r (c .node)) (c .mark)) (nodeY r (c .node)) (c .state))
+  rowOf c unknownNode = constant false
+
+  unfoldable pub rows : Cell → Row Cell
+  rows c = rowOf c (nodeSort (nodeKind r (c .node)))
+
+-- no chain of rows of an accepted sheet without loops is longer
+abbrev pub enough : ℕ
+enough = 131072
+
+-- ---- "The table lies in the first S × N × (B + 1) bytes"
+
+abbrev pub marks : List ℕ → ℕ
+marks r = binderCount r + 1
+
+abbrev pub cellCount : List ℕ → List ℕ → ℕ
+cellCount p r = stateCount p * nodeCount r * marks r
+
+-- "cell (m, n, s) is byte (s × N + n) × (B + 1) + m"
+abbrev pub indexOf : List ℕ → Cell → ℕ
+indexOf r c = (c .state * nodeCount r + c .node) * marks r + c .mark
+
+-- the cell at a byte
+abbrev pub cellAt : List ℕ → ℕ → Cell
+cellAt r i = cell (i % marks r) (i / marks r % nodeCount r) (i / marks r / nodeCount r)
+
+-- ---- loops of the plan
+
+-- the states that transitions of a list lead to from s
+unfoldable pub targets : ℕ → List Transition → List ℕ
+targets s [] = []
+targets s (t ∷ ts) = pick (eqb (t .origin) s) (t .target ∷ targets s ts) (targets s ts)
+
+abbrev pub successors : List ℕ → ℕ → List ℕ
+successors p s = targets s (planOf p .transitions)

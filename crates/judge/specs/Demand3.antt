@@ -1,0 +1,97 @@
+-- Demand 3: one statement about whole lists of queries, over what clearing and query answer and leave (specs/Clearing.antt, specs/Querying.antt).
+-- Document 01, "Lists of queries".
+use Prim.Native.Nat.{ℕ, _+_, _*_, _<_, _≤_}
+use mathlib.Core.Path.{_≡_}
+use mathlib.Core.Bool.{Bool, true, false}
+use mathlib.Core.List.{List, [], _∷_}
+use mathlib.Core.Logic.{_↔_}
+use lib.ListN.{length}
+use lib.Dec.{ltb}
+use Rattle.sheet.specs.Bytes.{pick}
+use Rattle.sheet.specs.Contents.{planBody, actionsBody, ruleBody}
+use Rattle.sheet.specs.Plan.{stateCount}
+use Rattle.sheet.specs.Rule.{nodeCount, binderCount}
+use Rattle.sheet.specs.Reading.{sheetCheck}
+use Rattle.sheet.specs.declared.Check.the-variants.{Passed}
+use Rattle.calculus.specs.Verdict.{Verdict}
+use Rattle.calculus.specs.Exchange.{exchanged}
+use Rattle.calculus.specs.Guard.{guardedRule}
+use Rattle.judge.specs.Rows.{value}
+use Rattle.judge.specs.Tables.{byteAt, filled, byte, count, neededFor}
+use Rattle.judge.specs.Loops.{Loop}
+use Rattle.judge.specs.Cells.{Cell, cell, rows, enough, indexOf, cellAt, successors}
+use Rattle.judge.specs.Clearing.{sizeOf, clearedOf, tableCleared}
+use Rattle.judge.specs.Querying.{QueryReport, reportedQuery, queriedOf, tableQueried}
+use Rattle.judge.specs.declared.Cleared.the-variants.{Done}
+
+-- "A list is any number of queries, of states below S or not, with one sheet and one table": what each reports, the table handed on from query to query
+unfoldable pub reports : List ℕ → List ℕ → List ℕ → List QueryReport
+reports s t [] = []
+reports s t (state ∷ states) = reportedQuery (queriedOf s state t) ∷ reports s (tableQueried s state t) states
+
+-- the table that the list leaves
+unfoldable pub tableAfter : List ℕ → List ℕ → List ℕ → List ℕ
+tableAfter s t [] = t
+tableAfter s t (state ∷ states) = tableAfter s (tableQueried s state t) states
+
+-- what holds of each query of a list and its report
+abbrev pub Reported : (ℕ → QueryReport → Type 0) → List ℕ → List QueryReport → Type 0
+Reported P [] [] = Unit {0}
+Reported P [] (q ∷ qs) = ⊥
+Reported P (state ∷ states) [] = ⊥
+Reported P (state ∷ states) (q ∷ qs) = P state q × Reported P states qs
+
+-- the same queries are refused, and the others have the same verdicts
+abbrev pub SameAnswers : List QueryReport → List QueryReport → Type 0
+SameAnswers [] [] = Unit {0}
+SameAnswers [] (q ∷ qs) = ⊥
+SameAnswers (q ∷ qs) [] = ⊥
+SameAnswers (q ∷ qs) (q′ ∷ qs′) = ((q .number ≡ q′ .number) × (q .verdict ≡ q′ .verdict)) × SameAnswers qs qs′
+
+-- the sum of the visits
+unfoldable pub visitsOf : List QueryReport → ℕ
+visitsOf [] = 0
+visitsOf (q ∷ qs) = q .visits + visitsOf qs
+
+-- (0, 0, s) for each queried state s that the plan has
+unfoldable pub queriedCells : ℕ → List ℕ → List Cell
+queriedCells S [] = []
+queriedCells S (state ∷ states) = pick (ltb state S) (cell 0 0 state ∷ queriedCells S states) (queriedCells S states)
+
+-- "A loop is a way of one or more transitions from a state back to it."
+abbrev pub NoLoop : List ℕ → Type 0
+NoLoop s = (state : ℕ) → state < stateCount (planBody s) → Loop (successors (planBody s)) state → ⊥
+
+-- "for guarded rules and every choice of exchanged fixed points": the exchanged sheet, with a table of its own, just cleared for it, and the same list
+pub record Exchange (s states : List ℕ) (answers : List QueryReport) (choice : ℕ → Bool) (u : List ℕ) : Type 0 where
+  pub accepted : sheetCheck (exchanged choice s) ≡ Passed
+  pub cleared : clearedOf (exchanged choice s) u ≡ Done
+  -- the queries' answers are unchanged
+  pub same-answers : SameAnswers answers (reports (exchanged choice s) (tableCleared (exchanged choice s) u) states)
+  -- and so is Table 1's verdict
+  pub same-verdicts : (state : ℕ) → state < stateCount (planBody s) → Verdict s state ↔ Verdict (exchanged choice s) state
+
+-- A sheet s, a lent buffer t and a list of states, started from what clearing gives.
+pub record Demand3 (s t states : List ℕ) : Type 0 where
+  -- "The table is just cleared when clearing gave number 0 on it with that sheet, as it does for an accepted sheet on every buffer long enough."
+  pub cleared : clearedOf s t ≡ Done
+  -- refused are exactly the queries of a state that the plan doesn't have
+  pub refusals : Reported (λ state q. (q .number ≡ 0) ↔ (state < stateCount (planBody s))) states (reports s (tableCleared s t) states)
+  -- every other query's verdict is Table 1's, on the rule as written
+  pub verdicts : Reported (λ state q. state < stateCount (planBody s) → (q .verdict ≡ true) ↔ Verdict s state) states (reports s (tableCleared s t) states)
+  -- in a guarded rule fixed points can be exchanged
+  pub exchange : guardedRule s ≡ true → (choice : ℕ → Bool) (u : List ℕ) → sizeOf s ≤ length u → Exchange s states (reports s (tableCleared s t) states) choice u
+  -- filled are exactly the cells needed for the queries not refused, by the rows as written
+  pub cells : (i : ℕ) → i < sizeOf s → filled (byteAt (tableAfter s (tableCleared s t) states) i) ≡ neededFor (indexOf (ruleBody s)) (rows (planBody s) (actionsBody s) (ruleBody s)) enough (queriedCells (stateCount (planBody s)) states) i
+  -- each with its solution
+  pub solved : (i : ℕ) → i < sizeOf s → filled (byteAt (tableAfter s (tableCleared s t) states) i) ≡ true → byteAt (tableAfter s (tableCleared s t) states) i ≡ byte (value (rows (planBody s) (actionsBody s) (ruleBody s)) enough (cellAt (ruleBody s) i))
+  -- "Bytes after these are never changed."
+  pub after-cells : (i : ℕ) → sizeOf s ≤ i → byteAt (tableAfter s (tableCleared s t) states) i ≡ byteAt t i
+  -- the visits' sum is the number of filled cells
+  pub sum : visitsOf (reports s (tableCleared s t) states) ≡ count (sizeOf s) (λ i. filled (byteAt (tableAfter s (tableCleared s t) states) i))
+  -- and at most states × nodes × (binders + 1)
+  pub at-most : visitsOf (reports s (tableCleared s t) states) ≤ stateCount (planBody s) * nodeCount (ruleBody s) * (binderCount (ruleBody s) + 1)
+
+-- every accepted sheet without loop, every buffer long enough, every list of states
+abbrev pub DemandThree : Type 0
+DemandThree = (s t states : List ℕ) → sheetCheck s ≡ Passed → NoLoop s → sizeOf s ≤ length t → Demand3 s t states

@@ -1,0 +1,53 @@
+-- Rows of cells, their solution and need, as document 01 has them under "Rows". Cells are any type; nothing is said here of marks, nodes and states.
+use mathlib.Core.Bool.{Bool, true, false, not, Bool·beq}
+use mathlib.Core.List.{List, [], _∷_, _++_}
+use Prim.Native.Nat.{ℕ, zero, suc, _<_}
+
+-- the "or" and the "and" of rows
+pub data Connective : Type 0 where
+  disjunction conjunction : Connective
+
+-- "the row is: ..": an "or" or an "and" of cells
+pub record Row (C : Type 0) : Type 0 where
+  pub connective : Connective
+  pub entries : List C
+
+-- "the first entry that decides it (a true one under "or", a false one under "and")"
+abbrev pub deciding : Connective → Bool
+deciding disjunction = true
+deciding conjunction = false
+
+-- whether an entry of this value decides a row of this connective
+abbrev pub decides : Connective → Bool → Bool
+decides k b = Bool·beq b (deciding k)
+
+module _ {C : Type 0} where
+  -- an "or" of no entry is false, an "and" of none is true; what stands after the first entry that decides is not looked at
+  unfoldable pub joined : Connective → (C → Bool) → List C → Bool
+  joined k v [] = not (deciding k)
+  joined k v (d ∷ ds) = elim (decides k (v d)) [ true ↦ deciding k | false ↦ joined k v ds ]
+
+  -- "taking its row in order up to the first entry that decides it .., the cells needed for each entry looked at"
+  unfoldable pub looked : Connective → (C → Bool) → (C → List C) → List C → List C
+  looked k v n [] = []
+  looked k v n (d ∷ ds) = n d ++ elim (decides k (v d)) [ true ↦ [] | false ↦ looked k v n ds ]
+
+  -- what holds of every cell of a list
+  abbrev pub Each : (C → Type 0) → List C → Type 0
+  Each P [] = Unit {0}
+  Each P (d ∷ ds) = P d × Each P ds
+
+module _ {C : Type 0} (rows : C → Row C) where
+  -- "the rows have one solution": the value at a cell. Any fuel above the cell's rank gives it
+  unfoldable pub value : ℕ → C → Bool
+  value zero c = false
+  value (suc f) c = joined (rows c .connective) (λ d. value f d) (rows c .entries)
+
+  -- "The cells needed for a cell are itself and .. the cells needed for each entry looked at"
+  unfoldable pub need : ℕ → C → List C
+  need zero c = []
+  need (suc f) c = c ∷ looked (rows c .connective) (λ d. value f d) (λ d. need f d) (rows c .entries)
+
+  -- "no chain of rows returns to its cell": among the cells that count, each entry has a smaller rank than the cell of its row
+  pub record Falling (Valid : C → Type 0) (rank : C → ℕ) : Type 0 where
+    pub falls : (c : C) → Valid c → Each (λ d. Valid d × (rank d < rank c)) (rows c .entries)

@@ -1,0 +1,120 @@
+-- Tables of cells and queries on them, as document 01 has them under "Guard check, clearing, query". A table is a list of bytes.
+use mathlib.Core.Bool.{Bool, true, false, not, _&&_, _||_}
+use mathlib.Core.List.{List, [], _∷_}
+use mathlib.Core.Path.{_≡_}
+use Prim.Native.Nat.{ℕ, zero, suc, _+_, _<_}
+use lib.Dec.{eqb}
+use lib.ListN.{getD}
+use Rattle.judge.specs.Rows.{Row, disjunction, conjunction, value, need, Falling}
+
+-- "cell (m, n, s) is byte ..": the byte at a position
+abbrev pub byteAt : List ℕ → ℕ → ℕ
+byteAt t i = getD t i 0
+
+-- "0 empty"
+abbrev pub empty : ℕ → Bool
+empty b = eqb b 0
+
+-- "A cell is filled when its byte is 1 or 2"; a table with a byte over 2 is refused
+abbrev pub filled : ℕ → Bool
+filled b = not (empty b)
+
+-- "1 false, 2 true": the byte of a value
+abbrev pub byte : Bool → ℕ
+byte false = 1
+byte true = 2
+
+-- "1 false, 2 true": the value that a filled byte holds
+abbrev pub known : ℕ → Bool
+known b = eqb b 2
+
+-- "how many it filled": how many positions below n pass a test
+unfoldable pub count : ℕ → (ℕ → Bool) → ℕ
+count zero p = 0
+count (suc n) p = elim (p n) [ true ↦ suc (count n p) | false ↦ count n p ]
+
+-- the first n bytes rewritten, each from its position and what it was; "Bytes after these are never changed"
+unfoldable pub rewritten : ℕ → (ℕ → ℕ → ℕ) → List ℕ → List ℕ
+rewritten zero f t = t
+rewritten (suc n) f [] = []
+rewritten (suc n) f (b ∷ bs) = f 0 b ∷ rewritten n (λ i. f (suc i)) bs
+
+-- "It gives the solution .. and reports how many it filled as its visits": verdict, visits and the table it leaves
+pub data Result : Type 0 where
+  out : Bool → ℕ → List ℕ → Result
+
+abbrev pub verdict : Result → Bool
+verdict (out v n t) = v
+
+abbrev pub visits : Result → ℕ
+visits (out v n t) = n
+
+abbrev pub table : Result → List ℕ
+table (out v n t) = t
+
+-- where cells lie: each has a position below the size, and is the cell at that position
+pub record Layout {C : Type 0} (Valid : C → Type 0) (index : C → ℕ) (size : ℕ) (cellAt : ℕ → C) : Type 0 where
+  pub inside : (c : C) → Valid c → index c < size
+  pub back : (c : C) → Valid c → cellAt (index c) ≡ c
+
+-- all that solving asks of rows and cells: ranks fall, cells are laid out, and the fuel is above every rank
+pub record Solvable {C : Type 0} (index : C → ℕ) (rows : C → Row C) (size : ℕ) (cellAt : ℕ → C) (Valid : C → Type 0) (rank : C → ℕ) (fuel : ℕ) : Type 0 where
+  pub falling : Falling rows Valid rank
+  pub layout : Layout Valid index size cellAt
+  pub fuelled : (c : C) → Valid c → rank c < fuel
+
+module _ {C : Type 0} (index : C → ℕ) where
+  -- the cell at position i is in a list
+  unfoldable pub among : List C → ℕ → Bool
+  among [] i = false
+  among (d ∷ ds) i = eqb (index d) i || among ds i
+
+-- "an empty "or" (false) or an empty "and" (true)"
+abbrev pub constant : {C : Type 0} → Bool → Row C
+constant false = record { connective = disjunction; entries = [] }
+constant true = record { connective = conjunction; entries = [] }
+
+module _ {C : Type 0} (index : C → ℕ) (rows : C → Row C) where
+  -- "a filled cell has, in place of its row, an empty "or" (false) or an empty "and" (true)"
+  unfoldable pub changed : List ℕ → C → Row C
+  changed t c = elim (empty (byteAt t (index c))) [ true ↦ rows c | false ↦ constant (known (byteAt t (index c))) ]
+
+module _ {C : Type 0} (index : C → ℕ) where
+  -- "the needed cells that were empty", for a list of needed cells
+  unfoldable pub fills : List ℕ → List C → ℕ → Bool
+  fills t l i = empty (byteAt t i) && among index l i
+
+module _ {C : Type 0} (index : C → ℕ) (size : ℕ) (cellAt : ℕ → C) where
+  -- "fills exactly the needed cells that were empty, each with its own solution, changes no other cell"
+  unfoldable pub filling : (C → Bool) → List C → List ℕ → List ℕ
+  filling v l t = rewritten size (λ i b. elim (fills index t l i) [ true ↦ byte (v (cellAt i)) | false ↦ b ]) t
+
+  -- "It gives the solution at (0, 0, s), fills exactly the needed cells that were empty, each with its own solution, changes no other cell, and reports how many it filled as its visits"; "solution and need are those of the rows so changed"
+  unfoldable pub query : (C → Row C) → ℕ → List ℕ → C → Result
+  query rows fuel t c =
+      let r : C → Row C = changed index rows t in
+      let l : List C = need r fuel c in
+      out (value r fuel c) (count size (fills index t l)) (filling (value r fuel) l t)
+
+  -- "A list is any number of queries .. with one sheet and one table": what each gives, the table handed on
+  unfoldable pub queries : (C → Row C) → ℕ → List ℕ → List C → List Result
+  queries rows fuel t [] = []
+  queries rows fuel t (c ∷ cs) =
+      let r : Result = query rows fuel t c in
+      r ∷ queries rows fuel (table r) cs
+
+-- the sum of the visits of a list of queries
+unfoldable pub total : List Result → ℕ
+total [] = 0
+total (r ∷ rs) = visits r + total rs
+
+-- the table that a list of queries leaves
+unfoldable pub final : List ℕ → List Result → List ℕ
+final t [] = t
+final t (r ∷ rs) = final (table r) rs
+
+module _ {C : Type 0} (index : C → ℕ) (rows : C → Row C) (fuel : ℕ) where
+  -- "Needed for some queries is each cell needed for (0, 0, s), s the state of at least one of them; need and solution are here by the rows as written"
+  unfoldable pub neededFor : List C → ℕ → Bool
+  neededFor [] i = false
+  neededFor (c ∷ cs) i = among index (need rows fuel c) i || neededFor cs i
