@@ -12,6 +12,7 @@ pub mod Lists
 pub mod FromCleared
 pub mod Settled
 pub mod Height
+pub mod ClearSteps
 pub mod BindersAbove
 pub mod CellLayout
 pub mod CellRows
@@ -28,3 +29,15 @@ pub mod GuardedNodes
 pub mod Exchange
 pub mod Demand3
 pub mod Examples
+pub mod FieldSteps
+pub mod PrepareSteps
+pub mod QuerySteps
+pub mod Outgoing
+pub mod SearchSteps
+pub mod DecideSteps
+pub mod DecideRows
+pub mod DecideAnswers
+pub mod FollowSteps
+pub mod FollowWalk
+pub mod QueryAnswers
+pub mod Delivered

@@ -18,7 +18,8 @@ use Rattle.judge.proofs.Needs.{changed-solvable, solution, needed, need
 use Rattle.judge.proofs.Extension.{Extends, looked-constant}
 use Rattle.judge.proofs.Filling.{fills-empty, fills-true, fill, fill-length, fill-above, fill-old, fill-new, fill-same, fills-other, fill-extends, Whole}
 use Rattle.judge.proofs.Walks.{out-path, fill-none, need-whole, along, answer, query-answer, walked, walk-solves, Solves}
-use Rattle.judge.proofs.Solver.{step, step-empty, step-filled, solve, closing}
+use Rattle.judge.specs.Solver.{step, solve, closing}
+use Rattle.judge.proofs.Solver.{step-empty, step-filled}
 
 module _ {C : Type 0} {index : C → ℕ} {rows : C → Row C} {size : ℕ} {cellAt : ℕ → C} {Valid : C → Type 0} {rank : C → ℕ} {F : ℕ} (s : Solvable index rows size cellAt Valid rank F) where
   module _ (t : List ℕ) (fits : size ≤ length t) (c : C) (vc : Valid c) where

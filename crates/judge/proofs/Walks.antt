@@ -12,7 +12,8 @@ use Rattle.judge.proofs.Bytes.{count-none}
 use Rattle.judge.proofs.Needs.{closed-nil, closed-append, need-closed, need-each, each-append, looked-all, changed-solvable, solution, needed}
 use Rattle.judge.proofs.Extension.{Extends, extension-value, extension-need, looked-among}
 use Rattle.judge.proofs.Filling.{fill, fill-length, fill-old, fill-extends, fill-count, fill-fill, Whole}
-use Rattle.judge.proofs.Solver.{walk, walk-decided, walk-on, after}
+use Rattle.judge.specs.Solver.{walk, after}
+use Rattle.judge.proofs.Solver.{walk-decided, walk-on}
 
 beq-true : (a b : Bool) → Bool·beq a b ≡ true → a ≡ b
 beq-true true true e = refl

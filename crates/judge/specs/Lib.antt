@@ -1,7 +1,12 @@
 pub mod Rows
 pub mod Tables
+pub mod Solver
 pub mod Loops
 pub mod Cells
 pub mod Clearing
 pub mod Querying
 pub mod Demand3
+pub mod Deciding
+pub mod Preparing
+pub mod Searching
+pub mod Delivered

@@ -1,4 +1,11 @@
-// The judge: what clearing and query answer. Rows, need and solution, and what both calls give, are in specs/.
+// The judge: rows of cells, clearing and query.
+pub mod clearing;
+mod cycles;
+mod deciding;
+mod fields;
+mod prepare;
+pub mod querying;
+
 use sheet::Refusal;
 
 // What clearing answers.

@@ -1,0 +1,84 @@
+-- Transitions stand in the order of their origins: those of a state are the ones from its first up to the first of the next state. A state whose
+-- successors are all settled is settled.
+use Prim.Native.Nat.{ℕ, zero, suc, _+_, _<_, _≤_}
+use mathlib.Core.Bool.{true}
+use mathlib.Core.List.{List, List·Memᴰ}
+use mathlib.Core.Logic.{inl, inr}
+use mathlib.Core.Path.{_≡_, sym, ap, subst, _∙_}
+use native.Mathlib.Omega.{arith}
+use native.Mathlib.Decide.{decLt}
+use lib.Dec.{leb}
+use borrow.Author.Tests.{leb-true, leb-false}
+use Rattle.sheet.specs.Plan.{stateCount, transitionCount, origin, label, target}
+use Rattle.sheet.specs.Rules.{PlanKept, Before}
+use Rattle.sheet.proofs.Lowest.{lowest-bound, lowest-below, lowest-found}
+use Rattle.calculus.specs.Plans.{Transition}
+use Rattle.calculus.specs.Decode.{planOf}
+use Rattle.calculus.proofs.PlanOf.{member-at, at-member}
+use Rattle.judge.specs.Loops.{settled}
+use Rattle.judge.specs.Cells.{successors}
+use Rattle.judge.specs.Deciding.{firstFrom}
+use Rattle.judge.proofs.Settled.{every-all, settled-reaches-none, settled-exactly}
+use Rattle.judge.proofs.Successors.{target-among, target-of, successor-below}
+
+module _ (p : List ℕ) (kept : PlanKept p) where
+  origin-rises : (i : ℕ) → suc i < transitionCount p → origin p i ≤ origin p (suc i)
+  origin-rises i h = go (kept .rising i h)
+    where
+      go : Before (origin p i) (label p i) (target p i) (origin p (suc i)) (label p (suc i)) (target p (suc i)) → origin p i ≤ origin p (suc i)
+      go (inl l) = omega arith
+      go (inr e) = omega (arith, e .0)
+
+  origin-order : (i j : ℕ) → i ≤ j → j < transitionCount p → origin p i ≤ origin p j
+  origin-order i zero h l = let e : i ≡ 0 = omega arith in omega (arith, ap (origin p) e)
+  origin-order i (suc j) h l =
+      elim (decLt i (suc j)) [
+        | yes q ↦ omega (arith, origin-order i j (omega arith) (omega arith), origin-rises j l)
+        | no q ↦ let e : i ≡ suc j = omega arith in omega (arith, ap (origin p) e)
+      ]
+
+  pub first-bound : (s : ℕ) → firstFrom p s ≤ transitionCount p
+  unfolding firstFrom
+  first-bound s = lowest-bound (λ i. leb s (origin p i)) (transitionCount p)
+
+  pub first-below : (s i : ℕ) → i < firstFrom p s → origin p i < s
+  unfolding firstFrom
+  first-below s i h = leb-false s (origin p i) (lowest-below (λ i. leb s (origin p i)) (transitionCount p) i h)
+
+  first-found : (s : ℕ) → firstFrom p s < transitionCount p → s ≤ origin p (firstFrom p s)
+  unfolding firstFrom
+  first-found s h = leb-true s _ (lowest-found (λ i. leb s (origin p i)) (transitionCount p) h)
+
+  pub first-from : (s i : ℕ) → firstFrom p s ≤ i → i < transitionCount p → s ≤ origin p i
+  first-from s i h l = omega (arith, first-found s (omega arith), origin-order (firstFrom p s) i h l)
+
+  pub among : (s i : ℕ) → firstFrom p s ≤ i → i < firstFrom p (s + 1) → (i < transitionCount p) × (origin p i ≡ s)
+  among s i h l =
+      let b : i < transitionCount p = omega (arith, first-bound (s + 1)) in
+      (b, omega (arith, first-below (s + 1) i l, first-from s i h b))
+
+  pub successor-at : (s i : ℕ) → firstFrom p s ≤ i → i < firstFrom p (s + 1) → List·Memᴰ (target p i) (successors p s)
+  successor-at s i h l = let a = among s i h l in target-among s (at-member p i (a .0)) (a .1)
+
+  pub successor-stands : (s t : ℕ) → List·Memᴰ t (successors p s) → (i : ℕ) × (firstFrom p s ≤ i) × (i < firstFrom p (s + 1)) × (target p i ≡ t)
+  successor-stands s t m =
+      let w = target-of s (planOf p .transitions) t m in
+      let d = member-at p (w .by) (w .among) in
+      let o : origin p (d .at) ≡ s = sym (ap (λ (x : Transition). x .origin) (d .is)) ∙ w .origin-is in (
+        d .at,
+        elim (decLt (d .at) (firstFrom p s)) [ yes q ↦ absurd (omega (arith, first-below s (d .at) q)) | no q ↦ omega arith ],
+        elim (decLt (d .at) (firstFrom p (s + 1))) [ yes q ↦ q | no q ↦ absurd (omega (arith, first-from (s + 1) (d .at) (omega arith) (d .before-end))) ],
+        sym (ap (λ (x : Transition). x .target) (d .is)) ∙ w .target-is,
+      )
+
+  -- a state whose successors are all settled is settled
+  pub settled-by-targets : (s : ℕ) → s < stateCount p
+      → ((i : ℕ) → firstFrom p s ≤ i → i < firstFrom p (s + 1) → settled (successors p) (stateCount p) (target p i) ≡ true)
+      → settled (successors p) (stateCount p) s ≡ true
+  unfolding settled
+  settled-by-targets s h all =
+      settled-exactly (successors p) (stateCount p) (λ u l t m. successor-below kept u t m) s h .1
+      (settled-reaches-none (successors p) (suc (stateCount p)) s (every-all (λ t. settled (successors p) (stateCount p) t) (successors p s) one))
+    where
+      one : (t : ℕ) → List·Memᴰ t (successors p s) → settled (successors p) (stateCount p) t ≡ true
+      one t m = let w = successor-stands s t m in subst (λ (u : ℕ). settled (successors p) (stateCount p) u ≡ true) (w .3) (all (w .0) (w .1) (w .2))

@@ -1,0 +1,165 @@
+-- What the code of preparing shows.
+use Prim.Native.Nat.{ℕ, zero, suc, _+_, _-_, _<_, _≤_}
+use mathlib.Core.Path.{_≡_, refl, sym, ap, subst, _∙_}
+use mathlib.Core.Bool.{Bool, false}
+use mathlib.Core.List.{List}
+use native.Mathlib.Omega.{arith}
+use native.Mathlib.Numerals.{add-one}
+use native.Mathlib.Decide.{decLt, ℕ-discrete}
+use lib.ListN.{length, getD, set, length-set}
+use lib.Seq.{getD-set-same, getD-set-other}
+use lib.Dec.{leb}
+use borrow.Author.Count.{below-more}
+use borrow.Author.Tests.{lt-leb, leb-false}
+use Rattle.sheet.specs.Bytes.{lowestFrom, lowest}
+use Rattle.sheet.specs.Contents.{headLength, ruleLength, ruleOffset, planBody, actionsBody, ruleBody}
+use Rattle.sheet.specs.Plan.{stateCount, transitionCount, origin, label}
+use Rattle.sheet.specs.Rule.{nodeCount}
+use Rattle.sheet.specs.Reading.{sheetCheck}
+use Rattle.sheet.specs.Rules.{SheetKept}
+use Rattle.sheet.specs.declared.Check.the-variants.{Passed}
+use Rattle.sheet.proofs.Accepted.{accepted-iff, plan-length, actions-length, kept-lengths}
+use Rattle.sheet.proofs.Lowest.{lowest-start, lowest-next, lowest-below, lowest-bound}
+use Rattle.judge.specs.Cells.{marks}
+use Rattle.judge.specs.Deciding.{firstFrom, Prepared}
+use Rattle.judge.specs.Preparing.{SameBefore, Headed, Binders, AllBefore, Firsts, Masks}
+
+-- ---- where the transitions of a state begin
+
+-- a search may begin at i where the test fails before it
+begin : (test : ℕ → Bool) (n i : ℕ) → i ≤ n → ((k : ℕ) → k < i → test k ≡ false) → lowestFrom test (n - i) i ≡ lowest test n
+begin test n zero h none = lowest-start test n
+begin test n (suc i) h none =
+    rw (← add-one) (sym (lowest-next test n i (omega arith) (none i (omega arith))) ∙ begin test n i (omega arith) (λ k l. none k (omega arith)))
+
+module _ (p : List ℕ) where
+  -- what is tested of a transition
+  abbrev pub from : ℕ → ℕ → Bool
+  from state i = leb state (origin p i)
+
+  pub go-on : (state at count : ℕ) → AllBefore p state at → count ≡ transitionCount p → lowestFrom (from state) (count - at) at ≡ firstFrom p state
+  unfolding firstFrom
+  go-on state at count b e = rw e (begin (from state) (transitionCount p) at (b .among) (λ k h. lt-leb state (origin p k) (b .earlier k h)))
+
+  pub none-before : (state : ℕ) → AllBefore p state 0
+  none-before state = record { among = omega arith; earlier = λ i h. absurd (omega arith) }
+
+  -- those before the first of a state are before the first of the next
+  pub next-before : (state at : ℕ) → at ≡ firstFrom p state → AllBefore p (state + 1) at
+  unfolding firstFrom
+  next-before state at e =
+      rw e (record {
+        among = lowest-bound (from state) (transitionCount p);
+        earlier = λ i h. omega (arith, leb-false state (origin p i) (lowest-below (from state) (transitionCount p) i h));
+      })
+
+-- ---- places that are filled one after another
+
+set-below : (l : List ℕ) (n v i : ℕ) → i < n → getD (set l n v) i 0 ≡ getD l i 0
+set-below l n v i h =
+    let differ : i ≡ n → ⊥ = λ e. omega arith in
+    getD-set-other l n i v 0 differ
+
+pub same-start : (at : ℕ) (l : List ℕ) → SameBefore at l l
+same-start at l i h = refl
+
+pub same-set : (at : ℕ) (old new : List ℕ) (n v : ℕ) → at ≤ n → SameBefore at old new → SameBefore at old (set new n v)
+same-set at old new n v h same i l = set-below new n v i (omega arith) ∙ same i l
+
+module _ (R : ℕ → ℕ → Type 0) (base : ℕ) where
+  -- what is asked of the first n places from a base on
+  abbrev pub Filled : ℕ → List ℕ → Type 0
+  Filled n l = (k : ℕ) → k < n → R k (getD l (base + k) 0)
+
+  pub filled-none : (l : List ℕ) → Filled 0 l
+  filled-none l k h = absurd (omega arith)
+
+  pub filled-more : (n v : ℕ) (l : List ℕ) → base + n < length l → Filled n l → R n v → Filled (n + 1) (set l (base + n) v)
+  filled-more n v l h all here k m =
+      elim (ℕ-discrete k n) [
+        | yes e ↦ rw (e, getD-set-same l (base + n) v 0 h) here
+        | no e ↦
+            let differ : base + k ≡ base + n → ⊥ = λ f. e (omega arith) in
+            let lower : k < n = omega (arith, differ) in
+            rw (getD-set-other l (base + n) (base + k) v 0 differ) (all k lower)
+      ]
+
+  -- a place that is right as it is
+  pub filled-next : (n : ℕ) (l : List ℕ) → Filled n l → R n (getD l (base + n) 0) → Filled (n + 1) l
+  filled-next n l = below-more (λ k. R k (getD l (base + k) 0)) n
+
+-- ---- actions that occur
+
+-- the actions of the first n transitions have their 1
+abbrev pub Marked : List ℕ → ℕ → List ℕ → Type 0
+Marked p n used = (i : ℕ) → i < n → (label p i < 256) × (getD used (label p i) 0 ≡ 1)
+
+pub marked-more : (p : List ℕ) (n a : ℕ) (used : List ℕ) → a ≡ label p n → a < length used → length used ≡ 256 → Marked p n used → Marked p (n + 1) (set used a 1)
+marked-more p n a used e h size all i l =
+    elim (ℕ-discrete i n) [
+      | yes f ↦
+          let g : label p i ≡ a = ap (label p) f ∙ sym e in
+          rw g (omega arith, getD-set-same used a 1 0 h)
+      | no f ↦
+          let before = all i (below-last f) in
+          (before .0, kept (label p i) (before .1))
+    ]
+  where
+    below-last : (i ≡ n → ⊥) → i < n
+    below-last f =
+        elim (decLt i n) [
+          | yes q ↦ q
+          | no q ↦ absurd (f (omega arith))
+        ]
+
+    kept : (k : ℕ) → getD used k 0 ≡ 1 → getD (set used a 1) k 0 ≡ 1
+    kept k one =
+        elim (ℕ-discrete k a) [
+          | yes f ↦ rw f (getD-set-same used a 1 0 h)
+          | no f ↦ getD-set-other used a k 1 0 f ∙ one
+        ]
+
+-- ---- where the rule lies
+
+pub rule-at : (s : List ℕ) → sheetCheck s ≡ Passed → (headLength + length (planBody s) + length (actionsBody s) ≡ ruleOffset s) × (ruleOffset s ≤ 6455)
+rule-at s e =
+    let k : SheetKept s = accepted-iff s .0 e in
+    let l : length s ≡ ruleOffset s + ruleLength s = k .ends in
+    let p = plan-length s (k .ends) in
+    let a = actions-length s (k .ends) in
+    let m = kept-lengths s k in
+    (omega arith, omega arith)
+
+pub headed : (s l : List ℕ) (o n m : ℕ) → length l ≡ 416 → o ≡ ruleOffset s → n ≡ nodeCount (ruleBody s) → m ≡ marks (ruleBody s) → Headed s (set (set (set l 0 o) 1 n) 2 m)
+headed s l o n m size p q r =
+    let first : length (set l 0 o) ≡ 416 = length-set l 0 o ∙ size in
+    let second : length (set (set l 0 o) 1 n) ≡ 416 = length-set (set l 0 o) 1 n ∙ first in
+    record {
+      size = length-set (set (set l 0 o) 1 n) 2 m ∙ second;
+      offset-is = set-below (set (set l 0 o) 1 n) 2 m 0 (omega arith) ∙ set-below (set l 0 o) 1 n 0 (omega arith) ∙ getD-set-same l 0 o 0 (omega arith) ∙ p;
+      nodes-are = set-below (set (set l 0 o) 1 n) 2 m 1 (omega arith) ∙ getD-set-same (set l 0 o) 1 n 0 (omega arith) ∙ q;
+      marks-are = getD-set-same (set (set l 0 o) 1 n) 2 m 0 (omega arith) ∙ r;
+    }
+
+-- ---- all steps together
+
+pub few-states : (s : List ℕ) → sheetCheck s ≡ Passed → stateCount (planBody s) ≤ 128
+few-states s e = accepted-iff s .0 e .bodies-kept .plan-kept .few-states
+
+module _ (s : List ℕ) (e : sheetCheck s ≡ Passed) where
+  steps : {first second third fourth : List ℕ} → Headed s first → Binders (ruleBody s) first second → Firsts (planBody s) second third → Masks (planBody s) (actionsBody s) third fourth → Prepared s fourth
+  steps {first} {second} {third} {fourth} h b f m =
+      let after-head : SameBefore 3 first fourth = λ i l. m .same i (omega arith) ∙ f .same i (omega arith) ∙ b .same i l in
+      record {
+        offset-is = after-head 0 (omega arith) ∙ h .offset-is;
+        nodes-are = after-head 1 (omega arith) ∙ h .nodes-are;
+        marks-are = after-head 2 (omega arith) ∙ h .marks-are;
+        binders-are = λ k l. m .same (3 + k) (omega arith) ∙ f .same (3 + k) (omega arith) ∙ b .filled k l;
+        firsts-are = λ state l. m .same (16 + state) (omega (arith, few-states s e)) ∙ f .filled state l;
+        masks-are = m .filled;
+      }
+
+  pub prepared : {p a r first second third fourth : List ℕ} → p ≡ planBody s → a ≡ actionsBody s → r ≡ ruleBody s → Headed s first → Binders r first second → Firsts p second third → Masks p a third fourth → Prepared s fourth
+  prepared {p} {a} {r} {first} {second} {third} {fourth} ep ea er h b f m =
+      steps h (subst (λ (x : List ℕ). Binders x first second) er b) (subst (λ (x : List ℕ). Firsts x second third) ep f)
+      (subst (λ (x : List ℕ). Masks x (actionsBody s) third fourth) ep (subst (λ (x : List ℕ). Masks p x third fourth) ea m))

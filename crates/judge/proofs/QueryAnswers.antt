@@ -1,0 +1,101 @@
+-- What the code of a query shows: each answer is the one that the checks give.
+use Prim.Native.Nat.{ℕ, _<_, _≤_}
+use mathlib.Core.Path.{_≡_, refl, sym, ap, _∙_}
+use mathlib.Core.Bool.{Bool, true, false, not}
+use mathlib.Core.List.{List}
+use native.Mathlib.Omega.{arith}
+use native.Mathlib.Decide.{decLt}
+use lib.ListN.{length}
+use lib.Dec.{eqb, ltb, leb}
+use borrow.Author.Tests.{lt-ltb, le-ltb, le-leb, lt-leb, eq-eqb, ne-eqb}
+use Rattle.sheet.specs.Bytes.{lowestFrom, lowest}
+use Rattle.sheet.specs.Contents.{planBody, actionsBody, ruleBody}
+use Rattle.sheet.specs.Plan.{stateCount}
+use Rattle.sheet.specs.Rules.{BodiesKept}
+use Rattle.sheet.specs.Reading.{sheetCheck}
+use Rattle.sheet.specs.declared.Refusal.{Refusal}
+use Rattle.sheet.specs.declared.Refusal.the-variants.{NoSuchState, Loop, TableShort, TableByte}
+use Rattle.sheet.specs.declared.Check.{Check}
+use Rattle.sheet.specs.declared.Check.the-variants.{Passed, Failed}
+use Rattle.judge.specs.Tables.{byteAt, Result, out, verdict, visits, table}
+use Rattle.judge.specs.Cells.{cell, successors}
+use Rattle.judge.specs.Clearing.{sizeOf}
+use Rattle.judge.specs.Querying.{loopless, bytesRight, queryCheck, resultOf, answerQueried, queriedOf, leftBy, tableQueried, reportedQuery, reportQuery, queryReportOf}
+use Rattle.judge.specs.Deciding.{Prepared, Decidable, Decided, verdictIn, visitsIn}
+use Rattle.judge.specs.declared.Queried.{Queried}
+use Rattle.judge.specs.declared.Queried.the-variants.{Judged, Refused}
+use Rattle.judge.proofs.Acyclic.{loopless-settled}
+use Rattle.judge.proofs.DecideSteps.{bodies}
+
+-- a byte over 2 below size, or none
+pub byte-over : (size : ℕ) (t : List ℕ) (i : ℕ) → i ≡ lowest (λ j. ltb 2 (byteAt t j)) size → i < size → false ≡ bytesRight size t
+unfolding bytesRight
+byte-over size t i e h = sym (ne-eqb (lowest (λ j. ltb 2 (byteAt t j)) size) size (λ q. omega arith))
+
+pub bytes-fine : (size : ℕ) (t : List ℕ) (i : ℕ) → i ≡ lowest (λ j. ltb 2 (byteAt t j)) size → size ≤ i → i ≤ size → true ≡ bytesRight size t
+unfolding bytesRight
+bytes-fine size t i e h l = sym (eq-eqb (lowest (λ j. ltb 2 (byteAt t j)) size) size (omega arith))
+
+module _ (s : List ℕ) (state : ℕ) (t : List ℕ) where
+  -- the answer, what it reports and what the table then holds
+  abbrev Answers : Queried → List ℕ → Type 0
+  Answers r now = (r ≡ queriedOf s state t) × ((reportedQuery r ≡ queryReportOf s state t) × (now ≡ tableQueried s state t))
+
+  answers : (r : Queried) (now : List ℕ) → r ≡ queriedOf s state t → now ≡ tableQueried s state t → Answers r now
+  unfolding queriedOf queryReportOf
+  answers r now e f = (e, (ap reportedQuery e ∙ go (queryCheck s state t), f))
+    where
+      go : (c : Check) → reportedQuery (answerQueried (resultOf s state t) c) ≡ reportQuery (resultOf s state t) c
+      go Passed = refl
+      go (Failed x) = refl
+
+  by-check : (x : Refusal) → queryCheck s state t ≡ Failed x → Answers (Refused x) t
+  unfolding queriedOf tableQueried
+  by-check x e = answers (Refused x) t (rw e) (rw e)
+
+  pub refused : (x : Refusal) → sheetCheck s ≡ Failed x → Answers (Refused x) t
+  unfolding queryCheck
+  refused x e = by-check x (rw e)
+
+  module _ (e : sheetCheck s ≡ Passed) where
+    pub no-state : stateCount (planBody s) ≤ state → Answers (Refused NoSuchState) t
+    unfolding queryCheck
+    no-state h = by-check NoSuchState (rw (e, le-ltb state (stateCount (planBody s)) h))
+
+    module _ (h : state < stateCount (planBody s)) where
+      pub a-loop : loopless (planBody s) ≡ false → Answers (Refused Loop) t
+      unfolding queryCheck
+      a-loop f = by-check Loop (rw (e, lt-ltb state (stateCount (planBody s)) h, f))
+
+      module _ (f : loopless (planBody s) ≡ true) where
+        pub short : length t < sizeOf s → Answers (Refused TableShort) t
+        unfolding queryCheck
+        short l = by-check TableShort (rw (e, lt-ltb state (stateCount (planBody s)) h, f, lt-leb (sizeOf s) (length t) l))
+
+        module _ (l : sizeOf s ≤ length t) where
+          pub bad-byte : bytesRight (sizeOf s) t ≡ false → Answers (Refused TableByte) t
+          unfolding queryCheck
+          bad-byte g = by-check TableByte (rw (e, lt-ltb state (stateCount (planBody s)) h, f, le-leb (sizeOf s) (length t) l, g))
+
+          passes : bytesRight (sizeOf s) t ≡ true → queryCheck s state t ≡ Passed
+          unfolding queryCheck
+          passes g = rw (e, lt-ltb state (stateCount (planBody s)) h, f, le-leb (sizeOf s) (length t) l, g)
+
+          pub judged : bytesRight (sizeOf s) t ≡ true → (w : ℕ) (v : Bool) (n : ℕ) (u : List ℕ) → Decided s (cell 0 0 state) t w u → v ≡ verdictIn w → n ≡ visitsIn w → Answers (Judged v n) u
+          unfolding queriedOf tableQueried
+          judged g w v n u d p q =
+              let r : out v n u ≡ resultOf s state t = (λ i. out (p i) (q i) u) ∙ d .result in
+              answers (Judged v n) u
+              (rw (passes g) (ap (λ (x : Result). Judged (verdict x) (visits x)) r))
+              (rw (passes g) (ap table r))
+
+          pub root-decidable : (index : List ℕ) → Prepared s index → Decidable s index t (cell 0 0 state)
+          root-decidable index p = record {
+            accepted = e;
+            prepared = p;
+            room = l;
+            node-below = bodies s e .rule-kept .some-nodes;
+            state-below = h;
+            state-settled = loopless-settled (planBody s) (bodies s e .plan-kept) .0 f state h;
+            mark-right = tt;
+          }

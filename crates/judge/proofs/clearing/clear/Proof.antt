@@ -1,0 +1,54 @@
+-- `judge::clearing::clear` meets its contract.
+use borrow.Author.Needs.{needs}
+use native.Mathlib.Omega.{arith}
+use mathlib.Core.Path.{sym, ap, _∙_}
+use mathlib.Core.List.{List, _++_}
+use Prim.Native.Nat.{ℕ}
+use lib.ListN.{drop, replicate}
+use denote.Ref.{now}
+use Rattle.judge.proofs.ClearSteps.{refused, short, done}
+use Rattle.judge.proofs.clearing.clear.Statement.{statement}
+use Rattle.judge.proofs.clearing.clear.Tie as tie
+
+check-requires : tie.Need-check-requires
+check-requires c κs = search needs
+
+enum-known-checked : tie.Need-enum-known-checked
+enum-known-checked c = search needs
+
+enum-told : tie.Need-enum-told
+enum-told c = search needs
+
+cell-count-requires : tie.Need-cell-count-requires
+cell-count-requires c κs = search needs
+
+returns : tie.Need-returns
+returns c = let a = c .before .before .before .before .before .before .before .args in short (now (a .sheet)) (now (a .table)) (sym (c .before .before .before .before .check .ensures .0) ∙ c .before .before .enum-told .given .1) (omega arith)
+
+zero-requires : tie.Need-zero-requires
+zero-requires c κs = search needs
+
+returns-2 : tie.Need-returns-2
+returns-2 c = let a = c .before .before .before .before .before .before .args in refused (now (a .sheet)) (now (a .table)) _ (sym (c .before .before .before .check .ensures .0) ∙ c .before .checked .given .1)
+
+same-length : tie.Need-same-length
+same-length c = search needs
+
+returns-3 : tie.Need-returns-3
+returns-3 c = let a = c .before .before .before .before .before .before .before .before .before .before .before .args in
+    done (now (a .sheet)) (now (a .table)) (sym (c .before .before .before .before .before .before .before .before .check .ensures .0) ∙ c .before .before .before .before .before .before .enum-told .given .1) (omega arith) _
+    (c .before .before .zero .ensures ∙ ap (λ (k : ℕ). replicate k 0 ++ drop k (now (a .table))) (c .before .before .before .before .before .cell-count .ensures))
+
+pub clear-spec : {M : Type 1} → statement M
+clear-spec =
+    tie.close
+    (tie.spec
+    check-requires
+    enum-known-checked
+    enum-told
+    cell-count-requires
+    returns
+    zero-requires
+    returns-2
+    same-length
+    returns-3)

@@ -1,0 +1,18 @@
+-- `judge::prepare::label_at` meets its contract.
+use borrow.Author.Needs.{needs}
+use mathlib.Core.Path.{ap}
+use Rattle.sheet.specs.declared.Transition.{Transition}
+use Rattle.judge.proofs.prepare.label_at.Statement.{statement}
+use Rattle.judge.proofs.prepare.label_at.Tie as tie
+
+transition-requires : tie.Need-transition-requires
+transition-requires c κs = search needs
+
+cast-result : tie.Need-cast-result
+cast-result c = search needs
+
+returns : tie.Need-returns
+returns c = (ap (λ (t : Transition). t .action .0) (c .before .before .transition .ensures), search needs)
+
+pub label-at-spec : {M : Type 1} → statement M
+label-at-spec = tie.close (tie.spec transition-requires cast-result returns)

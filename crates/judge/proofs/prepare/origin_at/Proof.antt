@@ -1,0 +1,15 @@
+-- `judge::prepare::origin_at` meets its contract.
+use borrow.Author.Needs.{needs}
+use mathlib.Core.Path.{ap}
+use Rattle.sheet.specs.declared.Transition.{Transition}
+use Rattle.judge.proofs.prepare.origin_at.Statement.{statement}
+use Rattle.judge.proofs.prepare.origin_at.Tie as tie
+
+transition-requires : tie.Need-transition-requires
+transition-requires c κs = search needs
+
+returns : tie.Need-returns
+returns c = ap (λ (t : Transition). t .from .0) (c .before .transition .ensures)
+
+pub origin-at-spec : {M : Type 1} → statement M
+origin-at-spec = tie.close (tie.spec transition-requires returns)

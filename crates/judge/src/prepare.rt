@@ -1,0 +1,139 @@
+// Preparing: the numbers that are worked out once for a query.
+use calculus::meeting::meeting;
+use sheet::Action;
+use sheet::Variable;
+use sheet::plan::action_count;
+use sheet::plan::state_count;
+use sheet::plan::transition;
+use sheet::plan::transition_count;
+use sheet::reader::actions_body;
+use sheet::reader::plan_body;
+use sheet::reader::rule_body;
+use sheet::rule::binder_count;
+use sheet::rule::binder_node;
+use sheet::rule::node_count;
+ghost use mathlib.Core.Path.{_≡_};
+ghost use Prim.Native.Nat.{_<_, _≤_};
+ghost use lib.ListN.{length};
+ghost use Rattle.sheet.specs.Plan.{stateCount, origin, label};
+ghost use Rattle.sheet.specs.Reading.{sheetCheck};
+ghost use Rattle.sheet.specs.declared.Check.the-variants.{Passed};
+ghost use Rattle.judge.specs.Deciding.{firstFrom, Prepared};
+ghost use Rattle.judge.specs.Preparing.{AllBefore, Used, Headed, Binders, Firsts, Masks};
+
+fn origin_at(plan: &[u8], i: u16) -> u8
+    ensures { λ r. ⌜ r ≡ origin (now (plan .entry)) i ⌝ }
+{
+    let t = transition(plan, i);
+    let s = t.from;
+    s.0
+}
+
+fn label_at(plan: &[u8], i: u16) -> usize
+    ensures { λ r. ⌜ (r ≡ label (now (plan .entry)) i) × (r < 256) ⌝ }
+{
+    let t = transition(plan, i);
+    let a = t.action;
+    a.0 as usize
+}
+
+// Where the transitions of a state or of a later one begin; those before at are of earlier states.
+fn first_from(plan: &[u8], state: u8, at: u16) -> u16
+    requires { ⌜ AllBefore (now plan) state at ⌝ }
+    ensures { λ r. ⌜ r ≡ firstFrom (now (plan .entry)) state ⌝ }
+{
+    let count = transition_count(plan);
+    let mut i = at;
+    while i < count {
+        if state <= origin_at(plan, i) {
+            return i;
+        }
+        i += 1;
+    }
+    i
+}
+
+// Places 0 to 2: where the rule lies, and how many nodes and marks it has.
+fn put_head(sheet: &[u8], index: &mut [u32; 416])
+    requires { ⌜ (sheetCheck (now sheet) ≡ Passed) × (length (now index) ≡ 416) ⌝ }
+    ensures { λ _. ⌜ Headed (now (sheet .entry)) (now (index .exit)) ⌝ }
+{
+    let rule = rule_body(sheet);
+    index[0] = (17 + plan_body(sheet).len() + actions_body(sheet).len()) as u32;
+    index[1] = node_count(rule) as u32;
+    index[2] = binder_count(rule) as u32 + 1;
+}
+
+// Places 3 to 8: the binders' nodes.
+fn put_binders(rule: &[u8], index: &mut [u32; 416])
+    requires { ⌜ length (now index) ≡ 416 ⌝ }
+    ensures { λ _. ⌜ Binders (now (rule .entry)) (now (index .entry)) (now (index .exit)) ⌝ }
+{
+    let mut k: u8 = 0;
+    while k < 6 {
+        let node = binder_node(rule, Variable(k));
+        index[3 + k as usize] = node.0 as u32;
+        k += 1;
+    }
+}
+
+// From place 16 on: where each state's transitions begin.
+fn put_firsts(plan: &[u8], index: &mut [u32; 416])
+    requires { ⌜ (stateCount (now plan) ≤ 128) × (length (now index) ≡ 416) ⌝ }
+    ensures { λ _. ⌜ Firsts (now (plan .entry)) (now (index .entry)) (now (index .exit)) ⌝ }
+{
+    let states = state_count(plan);
+    let mut at: u16 = 0;
+    let mut state: u8 = 0;
+    while state <= states {
+        at = first_from(plan, state, at);
+        index[16 + state as usize] = at as u32;
+        state += 1;
+    }
+}
+
+// A 1 for each action that occurs.
+fn used_actions(plan: &[u8]) -> [u8; 256]
+    ensures { λ used. ⌜ Used (now (plan .entry)) used ⌝ }
+{
+    let count = transition_count(plan);
+    let mut used = [0; 256];
+    let mut i: u16 = 0;
+    while i < count {
+        used[label_at(plan, i)] = 1;
+        i += 1;
+    }
+    used
+}
+
+// From place 160 on: which formulas each action that occurs meets.
+fn put_masks(plan: &[u8], actions: &[u8], index: &mut [u32; 416])
+    requires { ⌜ length (now index) ≡ 416 ⌝ }
+    ensures { λ _. ⌜ Masks (now (plan .entry)) (now (actions .entry)) (now (index .entry)) (now (index .exit)) ⌝ }
+{
+    let count = action_count(plan);
+    let used = used_actions(plan);
+    let mut a: usize = 0;
+    while a < 256 {
+        if used[a] == 1 {
+            index[160 + a] = meeting(actions, count, Action(a as u8));
+            a += 1;
+            continue;
+        }
+        a += 1;
+    }
+}
+
+// The numbers of an accepted sheet: 0 where nothing is to be known.
+pub(crate) fn prepare(sheet: &[u8]) -> [u32; 416]
+    requires { ⌜ sheetCheck (now sheet) ≡ Passed ⌝ }
+    ensures { λ index. ⌜ Prepared (now (sheet .entry)) index ⌝ }
+{
+    let plan = plan_body(sheet);
+    let mut index = [0; 416];
+    put_head(sheet, &mut index);
+    put_binders(rule_body(sheet), &mut index);
+    put_firsts(plan, &mut index);
+    put_masks(plan, actions_body(sheet), &mut index);
+    index
+}
