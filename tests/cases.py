@@ -1,9 +1,11 @@
 #!/usr/bin/env python3
-"""Requests 1 and 6 of the trial driver and what they must give, computed from document 01.
+"""The requests of the trial driver and what they must give, computed from document 01, and from Table 1 and Definition 2 of document 000.
 
-    cases.py store STDIN STDOUT DIR   DIR/stdin and DIR/stdout: the given vectors, then the cases below
-    cases.py large DIR                longer and random cases, for a run that is not stored
-    cases.py check STDIN STDOUT       recomputes STDOUT from STDIN
+    cases.py store VECTORS DIR     DIR/stdin and DIR/stdout: the vectors of the folder VECTORS, then the cases below
+    cases.py large DIR             longer and random cases, for a run that is not stored
+    cases.py check STDIN STDOUT    recomputes STDOUT from STDIN
+
+A last word NUMBERS, as 12456, to `store` and `large` keeps these requests alone.
 """
 import random
 import sys
@@ -166,6 +168,169 @@ def write_sheet(p, a, r, size):
     return s
 
 
+# ---- document 01: rows, need, solution; clearing and query
+
+
+class Sheet:
+    """an accepted sheet, taken apart"""
+
+    def __init__(self, s):
+        o1, l1, o2, l2, o3, l3 = read_sheet(s)
+        p, a, r = s[o1:o1 + l1], s[o2:o2 + l2], s[o3:o3 + l3]
+        self.states, self.actions = p[0], p[1]
+        self.entries, self.nodes = triples(a, 1), triples(r, 1)
+        self.after = [[] for _ in range(self.states)]   # of each state (action, to), in plan order
+        for source, action, to in triples(p, 4):
+            self.after[source].append((action, to))
+        self.binders = [n for n, (kind, x, y) in enumerate(self.nodes) if kind in (7, 8)]
+        self.formulas = []                              # of each entry the set of actions that meet it
+        every = frozenset(range(self.actions))
+        for kind, x, y in self.entries:
+            self.formulas.append((lambda: frozenset(), lambda: every, lambda: frozenset([x]), lambda: self.formulas[x] | self.formulas[y],
+                                  lambda: self.formulas[x] & self.formulas[y], lambda: every - self.formulas[x])[kind]())
+
+    def cells(self):
+        return self.states * len(self.nodes) * (len(self.binders) + 1)
+
+    def place(self, cell):
+        mark, node, state = cell
+        return (state * len(self.nodes) + node) * (len(self.binders) + 1) + mark
+
+    def has_loop(self):
+        """Ends are taken away until none is left; a loop is what stays."""
+        left = set(range(self.states))
+        while True:
+            ends = {s for s in left if not any(to in left for _, to in self.after[s])}
+            if not ends:
+                return bool(left)
+            left -= ends
+
+    def row(self, cell):
+        """whether it is an "or", and its entries"""
+        mark, node, state = cell
+        kind, x, y = self.nodes[node]
+        if kind in (0, 1):
+            return kind == 0, []
+        if kind in (2, 3):
+            return kind == 2, [(mark, x, state), (mark, y, state)]
+        if kind in (4, 5):
+            return kind == 4, [(0, y, to) for action, to in self.after[state] if action in self.formulas[x]]
+        if kind in (7, 8):
+            return True, [(x + 1 if mark == 0 else mark, y, state)]
+        if mark == 0 or x < mark - 1:
+            return True, [(0, self.binders[x], state)]
+        return self.nodes[self.binders[x]][0] == 7, []
+
+
+def solve(sheet, table, start):
+    """The rows below a cell, a filled cell's row being the empty one of its value: solution and need, each from the rows alone."""
+    rows, order, stack = {}, [], [(start, False)]
+    while stack:                        # every cell that a row names, entries before the cell that names them
+        cell, done = stack.pop()
+        if done:
+            order.append(cell)
+            continue
+        if cell in rows:
+            continue
+        value = table[sheet.place(cell)]
+        rows[cell] = sheet.row(cell) if value == 0 else (value == 1, [])
+        stack.append((cell, True))
+        stack.extend((e, False) for e in rows[cell][1] if e not in rows)
+    solution = {}
+    for cell in order:
+        either, entries = rows[cell]
+        values = [solution[e] for e in entries]
+        solution[cell] = any(values) if either else all(values)
+    need, stack = set(), [start]
+    while stack:
+        cell = stack.pop()
+        if cell in need:
+            continue
+        need.add(cell)
+        either, entries = rows[cell]
+        for e in entries:
+            stack.append(e)
+            if solution[e] == either:
+                break
+    return solution, need
+
+
+def clear(s, tab):
+    size = Sheet(s).cells()
+    if len(tab) < size:
+        raise Refused(20)
+    tab[:size] = bytes(size)
+
+
+def query(s, state, tab):
+    """verdict and visits; fills the table"""
+    sheet = Sheet(s)
+    if state >= sheet.states:
+        raise Refused(11)
+    if sheet.has_loop():
+        raise Refused(12)
+    if len(tab) < sheet.cells():
+        raise Refused(20)
+    if any(b > 2 for b in tab[:sheet.cells()]):
+        raise Refused(21)
+    solution, need = solve(sheet, tab, (0, 0, state))
+    empty = [c for c in need if tab[sheet.place(c)] == 0]
+    for c in empty:
+        tab[sheet.place(c)] = 2 if solution[c] else 1
+    return solution[0, 0, state], len(empty)
+
+
+# ---- document 000: Table 1 and Definition 2
+
+
+def guarded(s):
+    nodes = Sheet(s).nodes
+
+    def g(n, variables):
+        kind, x, y = nodes[n]
+        if kind in (2, 3):
+            return g(x, variables) and g(y, variables)
+        if kind in (4, 5):
+            return g(y, frozenset())
+        if kind == 6:
+            return x not in variables
+        if kind in (7, 8):
+            return g(y, variables | {x})
+        return True
+
+    return g(0, frozenset())
+
+
+def meaning(sheet, n, context):
+    kind, x, y = sheet.nodes[n]
+    every = frozenset(range(sheet.states))
+    if kind in (0, 1):
+        return every if kind == 1 else frozenset()
+    if kind == 2:
+        return meaning(sheet, x, context) | meaning(sheet, y, context)
+    if kind == 3:
+        return meaning(sheet, x, context) & meaning(sheet, y, context)
+    if kind in (4, 5):
+        below = meaning(sheet, y, context)
+        hits = [[to in below for action, to in sheet.after[s] if action in sheet.formulas[x]] for s in every]
+        return frozenset(s for s in every if (any if kind == 4 else all)(hits[s]))
+    if kind == 6:
+        return context[x]
+    now = frozenset() if kind == 7 else every
+    while True:
+        then = meaning(sheet, y, {**context, x: now})
+        if then == now:
+            return now
+        now = then
+
+
+def reference(s):
+    sheet = Sheet(s)
+    if sheet.states > 64:
+        raise Refused(13)
+    return sum(1 << s for s in meaning(sheet, 0, {}))
+
+
 # ---- the requests
 
 
@@ -173,8 +338,20 @@ class Cut(Exception):
     pass
 
 
-def answers(stream):
-    """what a stream of requests gives"""
+def yes(b):
+    return 'true' if b else 'false'
+
+
+def asked(sheet, state, tab):
+    try:
+        verdict, visits = query(sheet, state, tab)
+        return 'query 0 0 %s %d\n' % (yes(verdict), visits)
+    except Refused as f:
+        return 'query %d %d false 0\n' % (f.number, f.place)
+
+
+def answered(stream):
+    """each request of a stream with what it gives"""
     at = 0
 
     def take(n):
@@ -195,6 +372,25 @@ def answers(stream):
             except Refused as f:
                 row = [f.number, f.place] + [0] * 6
             return 'read %s\n' % ' '.join(map(str, row))
+        if request in (2, 3):
+            sheet = blob()
+            try:
+                row = [0, 0, yes(guarded(sheet)) if request == 2 else reference(sheet)]
+            except Refused as f:
+                row = [f.number, f.place, 'false' if request == 2 else 0]
+            return '%s %s\n' % ('guard' if request == 2 else 'reference', ' '.join(map(str, row)))
+        if request == 4:
+            sheet, size, fill, states = blob(), word(take(2), 0), take(1), blob()
+            tab = bytearray(fill * size)
+            try:
+                clear(sheet, tab)
+                text = 'clear 0 0\n'
+            except Refused as f:
+                text = 'clear %d %d\n' % (f.number, f.place)
+            return text + ''.join(asked(sheet, state, tab) for state in states) + 'table %s\n' % tab.hex()
+        if request == 5:
+            sheet, state, tab = blob(), take(1)[0], bytearray(blob())
+            return asked(sheet, state, tab) + 'table %s\n' % tab.hex()
         if request == 6:
             p, a, r = blob(), blob(), blob()
             size, fill = word(take(2), 0), take(1)
@@ -208,12 +404,17 @@ def answers(stream):
             return 'write %s\nout %s\n' % (' '.join(map(str, row)), out.hex())
         raise Cut
 
-    text = []
     try:
         while True:
-            text.append(one(take(1)[0]))
+            start = at
+            text = one(take(1)[0])
+            yield stream[start:at], text.encode()
     except Cut:
-        return ''.join(text).encode()
+        return
+
+
+def answers(stream):
+    return b''.join(text for _, text in answered(stream))
 
 
 def blob_of(b):
@@ -222,6 +423,22 @@ def blob_of(b):
 
 def read_request(s):
     return b'\x01' + blob_of(s)
+
+
+def guard_request(s):
+    return b'\x02' + blob_of(s)
+
+
+def reference_request(s):
+    return b'\x03' + blob_of(s)
+
+
+def list_request(s, size, fill, states):
+    return b'\x04' + blob_of(s) + two(size) + bytes([fill]) + blob_of(states)
+
+
+def query_request(s, state, tab):
+    return b'\x05' + blob_of(s) + bytes([state]) + blob_of(tab)
 
 
 def write_request(p, a, r, size, fill):
@@ -240,6 +457,7 @@ def table(*entries):
 
 
 rule = table
+T, F = (1, 0, 0), (0, 0, 0)
 
 K_PLAN = plan(3, 3, [(0, 1, 1), (1, 2, 2)])
 K_ACTIONS = table((2, 0, 0), (2, 1, 0), (2, 2, 0))
@@ -374,7 +592,6 @@ def action_tables():
 
 def rules():
     """for three action entries"""
-    T, F = (1, 0, 0), (0, 0, 0)
     yield b''
     yield rule()
     yield b'\1'
@@ -516,8 +733,178 @@ def writings():
     yield plan(128, 16, many(256)), K_ACTIONS, K_RULE, n, 3
     yield LONG_PLAN, LONG_ACTIONS, LONG_RULE, 6454, 7
     yield LONG_PLAN, LONG_ACTIONS, LONG_RULE, 6455, 7
-    yield K_PLAN, K_ACTIONS, K_RULE + b'\7' * (65535 - len(K_RULE)), 3, 9
-    yield K_PLAN, K_ACTIONS, K_RULE, 65535, 90
+
+
+# ---- the cases of guard check, reference, clearing and query
+
+TRUE = table((1, 0, 0))
+SELF = plan(1, 1, [(0, 0, 0)])
+K8 = set_at(K, 38, 8)
+LEAST_X, GREATEST_X = (sheet_of(K_PLAN, TRUE, rule((kind, 0, 1), (6, 0, 0))) for kind in (7, 8))
+LEAST_LOOP, GREATEST_LOOP = (sheet_of(SELF, TRUE, rule((kind, 0, 1), (5, 0, 2), (6, 0, 0))) for kind in (7, 8))
+
+
+def line(states):
+    """a chain of states"""
+    return plan(states, 1, [(s, 0, s + 1) for s in range(states - 1)])
+
+
+def deepest():
+    """The sheet on which a query nests deepest. Six binders, one in the other; below them a comb of 28 "or" whose teeth are padding, then the variables 4
+    to 0; at its end "some" over variable 5. At each state of the chain binder 5 opens, its cells lead down to variable 4, that to binder 4, and so on to
+    binder 0, and only below that one is the transition followed."""
+    teeth = [F] * 23 + [(6, k, 0) for k in (4, 3, 2, 1, 0)]
+    nodes = [(7, k, k + 1) for k in range(6)]
+    for tooth in teeth:
+        n = len(nodes)
+        nodes += [(2, n + 1, n + 2), tooth]
+    nodes += [(4, 0, len(nodes) + 1), (6, 5, 0)]
+    return sheet_of(line(128), TRUE, rule(*nodes))
+
+
+def to_try():
+    """the sheets to try, each with the start of what document 01 says it gives"""
+    yield list_request(K, 108, 165, [0, 1, 2]), 'clear 0 0|query 0 0 true 17|query 0 0 true 0|query 0 0 false 9|'
+    yield list_request(K8, 108, 0, [2]), 'clear 0 0|query 0 0 true 8|'
+    yield reference_request(K), 'reference 0 0 3|'
+    yield guard_request(K), 'guard 0 0 false|'
+    yield list_request(LEAST_X, 24, 0, [0]), 'clear 0 0|query 0 0 false 2|'
+    yield list_request(GREATEST_X, 24, 0, [0]), 'clear 0 0|query 0 0 true 2|'
+    yield list_request(sheet_of(K_PLAN, TRUE, rule((5, 0, 1), F)), 6, 0, [2]), 'clear 0 0|query 0 0 true 1|'
+    yield list_request(sheet_of(K_PLAN, TRUE, rule((4, 0, 1), T)), 6, 0, [2]), 'clear 0 0|query 0 0 false 1|'
+    yield reference_request(LEAST_LOOP), 'reference 0 0 0|'
+    yield reference_request(GREATEST_LOOP), 'reference 0 0 1|'
+    for s in (LEAST_LOOP, GREATEST_LOOP):
+        yield list_request(s, 6, 9, [0, 1]), 'clear 0 0|query 12 0 false 0|query 11 0 false 0|'
+    yield list_request(K, 107, 1, [0, 3]), 'clear 20 0|query 20 0 false 0|query 11 0 false 0|'
+    small = sheet_of(LEAST_PLAN, LEAST_ACTIONS, LEAST_RULE)
+    assert len(small) == 26 and len(K) == 74
+    yield list_request(small, 1, 7, [0]), 'clear 0 0|query 0 0 true 1|table 02|'
+    for states, number in ((64, 0), (65, 13), (128, 13), (129, 4)):
+        s = sheet_of(line(states), TRUE, rule((4, 0, 1), T))
+        yield reference_request(s), 'reference %d 0 %d|' % (number, (1 << 63) - 1 if number == 0 else 0)
+    for states, number in ((128, 0), (129, 4)):
+        s = sheet_of(line(states), TRUE, rule((7, 0, 1), (3, 2, 4), (5, 0, 3), (6, 0, 0), T))
+        yield guard_request(s), 'guard %d 0 %s|' % (number, yes(number == 0))
+        yield list_request(s, 1280, 1, [127, 0, 128]), 'clear %d 0|query %d 0 %s' % (number, number, yes(number == 0))
+    for n, number in ((64, 0), (65, 8)):
+        s = sheet_of(line(3), TRUE, rule(*chain(n)))
+        yield guard_request(s), 'guard %d 0 %s|' % (number, yes(number == 0))
+        yield reference_request(s), 'reference %d 0 %d|' % (number, 7 if number == 0 else 0)
+        yield list_request(s, 192, 3, [0, 2]), 'clear %d 0|query %d 0 %s' % (number, number, yes(number == 0))
+    for n, number in ((6, 0), (7, 10)):
+        s = sheet_of(line(2), TRUE, rule(*[(7 + k % 2, k, k + 1) for k in range(n)], (5, 0, n + 1), (6, n - 1, 0)))
+        place = 0 if number == 0 else 6
+        yield guard_request(s), 'guard %d %d %s|' % (number, place, yes(number == 0))
+        yield reference_request(s), 'reference %d %d %d|' % (number, place, 3 if number == 0 else 0)
+        yield list_request(s, 2 * 8 * 7, 3, [0, 1]), 'clear %d %d|query %d %d %s' % (number, place, number, place, yes(number == 0))
+    yield list_request(deepest(), 57344, 255, [0, 127]), 'clear 0 0|query 0 0 false '
+
+
+def refusals():
+    """sheets with a fault of each number from the input"""
+    yield K[:16]
+    yield set_at(K, 1, 2)
+    yield K + b'\0'
+    yield sheet_of(plan(0, 0, []), TRUE, rule(T))
+    yield sheet_of(plan(3, 3, [(0, 1, 1), (0, 1, 1)]), TRUE, rule(T))
+    yield sheet_of(K_PLAN, b'', rule(T))
+    yield sheet_of(K_PLAN, table((1, 0, 0), (6, 0, 0)), rule(T))
+    yield sheet_of(K_PLAN, TRUE, rule())
+    yield sheet_of(K_PLAN, TRUE, rule((4, 0, 1), (4, 1, 2), T))
+    yield sheet_of(K_PLAN, TRUE, rule((7, 0, 1), (2, 2, 3), T, (6, 1, 0)))
+
+
+def judgings():
+    """further requests 2 to 5"""
+    for s in refusals():
+        yield guard_request(s)
+        yield reference_request(s)
+        yield list_request(s, 5, 3, [0, 200])
+        yield query_request(s, 0, b'')
+        yield query_request(s, 255, b'\3\2\1\0')
+    # lists: refused states among others, a state again, none at all, a buffer longer than the cells
+    yield list_request(K, 108, 2, [])
+    yield list_request(K, 0, 2, [])
+    yield list_request(K, 0, 2, [0, 3])
+    yield list_request(K, 120, 77, [0, 3, 1, 255, 2, 0, 1, 2])
+    yield list_request(K, 109, 3, [2, 128, 1, 0, 3])
+    for order in ([2, 1, 0], [1, 0, 2], [2, 0], [1], [2, 2, 2]):
+        for s in (K, K8):
+            yield list_request(s, 108, 9, order)
+    # each choice of K's two binders
+    for kinds in ((7, 7), (7, 8), (8, 7), (8, 8)):
+        s = set_at(set_at(K, 38, kinds[0]), 38 + 21, kinds[1])
+        yield guard_request(s)
+        yield reference_request(s)
+        yield list_request(s, 108, 0, [0, 1, 2])
+    # one query on the tables that a list leaves
+    for s in (K, K8):
+        tab = bytearray(108)
+        for state in (2, 1, 0, 2):
+            yield query_request(s, state, bytes(tab))
+            query(s, state, tab)
+    # tables from elsewhere: all of one value, and a byte over 2 at either end and past the cells; short ones
+    for b in (0, 1, 2, 3, 255):
+        for s in (K, LEAST_X, GREATEST_X):
+            size = Sheet(s).cells()
+            yield query_request(s, 0, bytes([b]) * size)
+            for at in (0, size - 1, size):
+                yield query_request(s, 2, set_at(bytes(size) + b'\1', at, b))
+            yield query_request(s, 1, bytes([b]) * (size - 1))
+            yield query_request(s, 3, bytes([b]) * (size - 1))
+    # a loop: through several states, away from the state asked for; with 11, 20 and 21 as well
+    for transitions in ([(0, 0, 1), (1, 0, 0)], [(0, 0, 1), (2, 0, 2)], [(0, 0, 1), (1, 0, 2), (2, 0, 0)], [(1, 0, 3), (2, 0, 1), (3, 0, 2)], [(2, 0, 0), (2, 0, 1), (2, 0, 3)],
+                        [(3, 0, 2), (3, 0, 3)], [(0, 0, 2), (0, 0, 3), (1, 0, 2), (2, 0, 3)]):
+        for kind in (7, 8):
+            s = sheet_of(plan(4, 1, transitions), TRUE, rule((kind, 0, 1), (3, 2, 4), (5, 0, 3), (6, 0, 0), (4, 0, 5), T))
+            yield reference_request(s)
+            yield list_request(s, 48, 1, [0, 4, 3])
+            yield list_request(s, 47, 1, [0, 4, 3])
+            yield query_request(s, 0, b'\3' * 48)
+    # action formulas: each kind, none and all of the actions
+    entries = table((2, 1, 0), (2, 2, 0), (3, 0, 1), (4, 0, 1), (5, 2, 0), (0, 0, 0), (1, 0, 0), (5, 6, 0), (5, 5, 0), (4, 4, 8), *[(3 + i % 2, i - 1, i - 1) for i in range(10, 32)])
+    fan = plan(6, 4, [(0, 0, 1), (0, 1, 2), (0, 1, 3), (0, 2, 4), (0, 3, 5), (1, 1, 2), (2, 2, 4), (4, 3, 5)])
+    for e in range(32):
+        for kind in (4, 5):
+            s = sheet_of(fan, entries, rule((kind, e, 1), (9 - kind, 1, 2), (kind - 4, 0, 0)))
+            yield reference_request(s)
+            yield list_request(s, 18, 4, [0, 1, 4])
+    # the longest sheet, and a long one without loops
+    long = sheet_of(LONG_PLAN, LONG_ACTIONS, LONG_RULE)
+    yield guard_request(long)
+    yield reference_request(long)
+    yield query_request(long, 127, b'')
+    dense = plan(128, 255, [(i // 16, i % 16 * 17 - i % 16 // 15, 127 - i % 16 % (127 - i // 16)) for i in range(2032)])
+    s = sheet_of(dense, LONG_ACTIONS, rule((7, 0, 1), (2, 2, 4), (4, 31, 3), (6, 0, 0), (5, 3, 5), F))
+    yield guard_request(s)
+    yield list_request(s, 1536, 5, [0, 126, 127])
+    # bit 63
+    wide = plan(64, 1, [(s, 0, 63) for s in range(64)])
+    for kind in (7, 8):
+        yield reference_request(sheet_of(wide, TRUE, rule((kind, 0, 1), (4, 0, 2), (6, 0, 0))))
+    rng = random.Random(2)
+    for _ in range(60):
+        yield from random_judging(rng)
+
+
+def random_judging(rng, most=(3, 8, 16)):
+    """an accepted sheet, mostly without loops, its word, its guard check, a list, and a query on a table from elsewhere"""
+    states = rng.randrange(1, 6)
+    loops = rng.random() < 0.15
+    found = {(rng.randrange(states), rng.randrange(6), rng.randrange(states)) for _ in range(rng.randrange(10))}
+    p = plan(states, 6, sorted(t for t in found if loops or t[0] < t[2]))
+    a = table((2, rng.randrange(6), 0), (1, 0, 0), (5, 0, 0), (rng.choice((3, 4)), 2, 0))
+    s = sheet_of(p, a, random_rule(rng, rng.choice(most)))
+    try:
+        size = Sheet(s).cells()
+    except Refused:
+        return
+    yield guard_request(s)
+    yield reference_request(s)
+    yield list_request(s, size + rng.randrange(2), rng.randrange(256), [rng.randrange(states + 1) for _ in range(rng.randrange(1, 5))])
+    often = rng.choice((0, 0.5, 0.9))
+    yield query_request(s, rng.randrange(states), bytes(0 if rng.random() < often else rng.randrange(3) for _ in range(size)))
 
 
 def accepted(p, a, r):
@@ -542,6 +929,10 @@ def stored():
             yield write_request(p, a, r, (0, 3, len(s))[i // 3 % 3], fill)
     for w in writings():
         yield write_request(*w)
+    for request, start in to_try():
+        assert answers(request).decode().replace('\n', '|').startswith(start), start
+        yield request
+    yield from judgings()
 
 
 # an unknown request ends the run: what follows it gives nothing
@@ -601,6 +992,8 @@ def large():
     yield write_request(full, full, full, 65535, 200)
     yield write_request(K_PLAN, full, full, 65535, 201)
     yield write_request(LONG_PLAN, LONG_ACTIONS, LONG_RULE, 65535, 202)
+    yield write_request(K_PLAN, K_ACTIONS, K_RULE, 65535, 90)
+    yield write_request(K_PLAN, K_ACTIONS, K_RULE + b'\7' * (65535 - len(K_RULE)), 3, 9)
     yield read_request(full)
     rng = random.Random(1)
     for _ in range(4000):
@@ -612,6 +1005,11 @@ def large():
         yield read_request(damaged(rng, s) if rng.random() < 0.2 else s)
         if rng.random() < 0.3:
             yield write_request(p, a, r, max(0, len(s) + rng.randrange(-2, 3)), rng.randrange(256))
+    for full in ((list_request(deepest(), 65535, 3, range(129))), query_request(K, 0, bytes(65535)), query_request(K, 0, b'\3' * 65535), guard_request(full), reference_request(full),
+                 list_request(K, 65535, 3, b'\0' * 65535)):
+        yield full
+    for _ in range(1500):
+        yield from random_judging(rng, (3, 8, 16, 40, 64))
 
 
 def main(args):
@@ -626,16 +1024,26 @@ def main(args):
                 return 1
         print('one is longer:', len(given), len(found))
         return 1
-    if args[:1] == ['store'] and len(args) == 4:
-        vectors = Path(args[1]).read_bytes()
-        own = b''.join(stored()) + ENDING
-        Path(args[3], 'stdin').write_bytes(vectors + own)
-        Path(args[3], 'stdout').write_bytes(Path(args[2]).read_bytes() + answers(own))
+    numbers = b''
+    if len(args) > 1 and args[-1].isdigit():
+        numbers = bytes(map(int, args.pop()))
+
+    def put(where, given, end):
+        """the requests to keep, and what they give; then an end that gives nothing"""
+        kept = [(r, text) for r, text in given if not numbers or r[0] in numbers]
+        Path(where, 'stdin').write_bytes(b''.join(r for r, _ in kept) + end)
+        Path(where, 'stdout').write_bytes(b''.join(text for _, text in kept))
+
+    if args[:1] == ['store'] and len(args) == 3:
+        given = []
+        for name in ('sheet', 'reference', 'query'):
+            found = list(answered(Path(args[1], name + '.stdin').read_bytes()))
+            assert b''.join(text for _, text in found) == Path(args[1], name + '.stdout').read_bytes(), name
+            given += found
+        put(args[2], given + list(answered(b''.join(stored()))), ENDING)
         return 0
     if args[:1] == ['large'] and len(args) == 2:
-        stream = b''.join(large())
-        Path(args[1], 'stdin').write_bytes(stream + read_request(K)[:-1])
-        Path(args[1], 'stdout').write_bytes(answers(stream))
+        put(args[1], answered(b''.join(large())), read_request(K)[:-1])
         return 0
     print(__doc__)
     return 2

@@ -18,7 +18,10 @@ use sheet::State;
 ghost use mathlib.Core.Path.{_≡_};
 ghost use mathlib.Core.Bool.{Bool·beq};
 ghost use Prim.Native.Nat.{_+_, _*_, _<_, _≤_};
+ghost use lib.Dec.{eqb};
 ghost use Rattle.sheet.specs.Bytes.{pick};
+ghost use Rattle.sheet.specs.Contents.{ruleBody};
+ghost use Rattle.sheet.specs.Rule.{nodeKind};
 ghost use Rattle.judge.specs.Cells.{cell, outer, opened};
 ghost use Rattle.judge.specs.Deciding.{Decidable, Decided, Following, Followed, verdictIn};
 
@@ -90,8 +93,12 @@ pub(crate) fn decide(
             let w = both(first, second);
             close(table, at, w)
         }
-        4..=5 => {
-            let w = follow(sheet, index, table, node, state);
+        4 => {
+            let w = follow(sheet, index, table, node, state, true);
+            close(table, at, w)
+        }
+        5 => {
+            let w = follow(sheet, index, table, node, state, false);
             close(table, at, w)
         }
         6 => {
@@ -114,13 +121,20 @@ pub(crate) fn decide(
     }
 }
 
-// The cells that the transitions of a state lead to, in plan order, up to the first that decides.
-fn follow(sheet: &[u8], index: &[u32; 416], table: &mut [u8], node: Node, state: State) -> u32
-    requires { ⌜ Following (now sheet) (now index) (now table) (node .0) (state .0) ⌝ }
+// The cells that the transitions of a state lead to, in plan order, up to the first that decides; or says whether the node is a "some". Called
+// at two places, it is compiled apart, which keeps the frame of decide small.
+fn follow(
+    sheet: &[u8],
+    index: &[u32; 416],
+    table: &mut [u8],
+    node: Node,
+    state: State,
+    or: bool,
+) -> u32
+    requires { ⌜ Following (now sheet) (now index) (now table) (node .0) (state .0) × (or ≡ eqb (nodeKind (ruleBody (now sheet)) (node .0)) 4) ⌝ }
     ensures { λ w. ⌜ Followed (now (sheet .entry)) (node .0) (state .0) (now (table .entry)) w (now (table .exit)) ⌝ }
 {
     let n = node.0;
-    let or = kind_of(sheet, index, Node(n)) == 4;
     let entry = x_of(sheet, index, Node(n));
     let child = y_of(sheet, index, Node(n));
     let from = state.0 as usize;

@@ -1,7 +1,11 @@
 // The trial driver: reads requests from standard input until it ends, and writes the result of each as text.
+mod guard;
 mod input;
+mod list;
 mod output;
+mod query;
 mod read;
+mod refer;
 mod write;
 
 use input::Byte;
@@ -10,6 +14,10 @@ use input::Byte;
 fn answer(number: u8) -> bool {
     match number {
         1 => read::answer(),
+        2 => guard::answer(),
+        3 => refer::answer(),
+        4 => list::answer(),
+        5 => query::answer(),
         6 => write::answer(),
         _ => false,
     }

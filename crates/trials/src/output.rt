@@ -14,6 +14,15 @@ pub fn number(n: u64) {
     io::print_decimal(STDOUT_FILENO, n);
 }
 
+// A space and a verdict.
+pub fn truth(b: bool) {
+    if b {
+        text(b" true");
+    } else {
+        text(b" false");
+    }
+}
+
 pub fn end_line() {
     text(b"\n");
 }

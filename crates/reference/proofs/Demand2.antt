@@ -1,0 +1,97 @@
+-- Demand 2, over the promise of the reference judge: on every accepted sheet of at most 64 states the word's bits are the states in the meaning of the
+-- rule by Table 1, and a refusal gives the word 0.
+use Prim.Native.Nat.{ℕ, _<_, _≤_}
+use mathlib.Core.Path.{_≡_, refl, sym, ap, _∙_}
+use mathlib.Core.Bool.{Bool, true, false, false≢true}
+use mathlib.Core.List.{List}
+use mathlib.Core.Logic.{_↔_}
+use native.Mathlib.Omega.{arith}
+use native.Mathlib.Decide.{decLt}
+use lib.Dec.{ltb}
+use borrow.Author.Tests.{lt-ltb, le-ltb}
+use Rattle.sheet.specs.Bytes.{pick}
+use Rattle.sheet.specs.Contents.{planBody}
+use Rattle.sheet.specs.Plan.{stateCount}
+use Rattle.sheet.specs.Reading.{sheetCheck}
+use Rattle.sheet.specs.declared.Check.{Check}
+use Rattle.sheet.specs.declared.Check.the-variants.{Passed, Failed}
+use Rattle.sheet.specs.declared.Refusal.{Refusal}
+use Rattle.sheet.specs.declared.Refusal.the-variants.{TooManyStates}
+use Rattle.sheet.proofs.Accepted.{accepted-iff}
+use Rattle.calculus.specs.Meeting.{bit}
+use Rattle.calculus.specs.Verdict.{Verdict}
+use Rattle.calculus.proofs.Verdicts.{verdict-decided}
+use Rattle.reference.specs.declared.Reference.the-variants.{Word, Refused}
+use Rattle.reference.specs.Reference.{inMeaning, meaningWord, answerReference, referenceOf, Referring, reportedReference, reportReference, referringOf, ByTable1}
+use Rattle.reference.proofs.Words.{word-bit, word-high}
+
+module _ (s : List ℕ) where
+  -- the promised answer, case by case
+  pub promised-refused : (x : Refusal) → sheetCheck s ≡ Failed x → Refused x ≡ referenceOf s
+  unfolding referenceOf
+  promised-refused x e = ap (answerReference s) (sym e)
+
+  pub promised-large : sheetCheck s ≡ Passed → 64 < stateCount (planBody s) → Refused TooManyStates ≡ referenceOf s
+  unfolding referenceOf
+  promised-large e h = ap (λ (b : Bool). pick b (Refused TooManyStates) (Word (meaningWord s))) (sym (lt-ltb 64 (stateCount (planBody s)) h)) ∙ ap (answerReference s) (sym e)
+
+  pub promised-word : sheetCheck s ≡ Passed → stateCount (planBody s) ≤ 64 → Word (meaningWord s) ≡ referenceOf s
+  unfolding referenceOf
+  promised-word e h = ap (λ (b : Bool). pick b (Refused TooManyStates) (Word (meaningWord s))) (sym (le-ltb 64 (stateCount (planBody s)) h)) ∙ ap (answerReference s) (sym e)
+
+  -- what it reports
+  pub promised-report : reportedReference (referenceOf s) ≡ referringOf s
+  unfolding referenceOf referringOf
+  promised-report = go (sheetCheck s)
+    where
+      size : (b : Bool) → reportedReference (pick b (Refused TooManyStates) (Word (meaningWord s))) ≡ pick b (record { number = 13; place = 0; word = 0 }) (record { number = 0; place = 0; word = meaningWord s })
+      size true = refl
+      size false = refl
+
+      go : (c : Check) → reportedReference (answerReference s c) ≡ reportReference s c
+      go Passed = size (ltb 64 (stateCount (planBody s)))
+      go (Failed x) = refl
+
+  -- the bits of the promised word
+  pub word-bits : sheetCheck s ≡ Passed → (t : ℕ) → (bit (meaningWord s) t ≡ true) ↔ ((t < stateCount (planBody s)) × Verdict s t)
+  unfolding meaningWord inMeaning
+  word-bits e t = (to, λ h. word-bit (stateCount (planBody s)) (inMeaning s) t (h .0) ∙ verdict-decided (accepted-iff s .0 e) t (h .0) .0 (h .1))
+    where
+      to : bit (meaningWord s) t ≡ true → (t < stateCount (planBody s)) × Verdict s t
+      to b =
+          elim (decLt t (stateCount (planBody s))) [
+            | yes l ↦ (l, verdict-decided (accepted-iff s .0 e) t l .1 (sym (word-bit (stateCount (planBody s)) (inMeaning s) t l) ∙ b))
+            | no h ↦ absurd (false≢true (sym (word-high (stateCount (planBody s)) (inMeaning s) t (omega arith)) ∙ b))
+          ]
+
+  pub by-table1 : ByTable1 s (referenceOf s)
+  by-table1 = record {
+    accepted = λ e h. record { word = meaningWord s; is = sym (promised-word e h); bits = word-bits e };
+    large = λ e h. sym (promised-large e h);
+    refused = λ x e. sym (promised-refused x e);
+  }
+
+  -- a report with a refusal's number has the word 0
+  pub refused-zero : (referringOf s .number ≡ 0 → ⊥) → referringOf s .word ≡ 0
+  unfolding referringOf
+  refused-zero = go (sheetCheck s)
+    where
+      size : (b : Bool) (w : ℕ) (a : Referring) → a ≡ pick b (record { number = 13; place = 0; word = 0 }) (record { number = 0; place = 0; word = w }) → (a .number ≡ 0 → ⊥) → a .word ≡ 0
+      size true w a q n = ap (λ (x : Referring). x .word) q
+      size false w a q n = absurd (n (ap (λ (x : Referring). x .number) q))
+
+      go : (c : Check) → (reportReference s c .number ≡ 0 → ⊥) → reportReference s c .word ≡ 0
+      go Passed n = size (ltb 64 (stateCount (planBody s))) (meaningWord s) _ refl n
+      go (Failed x) n = refl
+
+-- Demand 2 of a list of bytes.
+pub record Demand2 (s : List ℕ) : Type 0 where
+  -- the promised answer, against Table 1
+  pub answer : ByTable1 s (referenceOf s)
+  -- what the call reports is what its answer says: number 0, place 0 and the word, or the refusal's number and place
+  pub report : reportedReference (referenceOf s) ≡ referringOf s
+  -- and the word 0 with it
+  pub zero : (referringOf s .number ≡ 0 → ⊥) → referringOf s .word ≡ 0
+
+pub demand2 : (s : List ℕ) → Demand2 s
+demand2 s = record { answer = by-table1 s; report = promised-report s; zero = refused-zero s }

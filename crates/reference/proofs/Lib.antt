@@ -1,0 +1,12 @@
+pub mod Words
+pub mod Members
+pub mod Passing
+pub mod Restarting
+pub mod Fixpoints
+pub mod Contexts
+pub mod Clauses
+pub mod Rounds
+pub mod Reached
+pub mod Demand2
+pub mod Answers
+pub mod Sheets

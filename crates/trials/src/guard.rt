@@ -1,0 +1,30 @@
+// Request 2: the guard check of a blob.
+use crate::input;
+use crate::input::Word;
+use crate::output;
+use calculus::Guard;
+
+fn guard(sheet: &[u8]) {
+    output::text(b"guard");
+    let answer = calculus::guardedness::guard(sheet);
+    match answer {
+        Guard::Answered(b) => {
+            output::accepted();
+            output::truth(b);
+        }
+        Guard::Refused(r) => {
+            output::refused(r);
+            output::truth(false);
+        }
+    }
+    output::end_line();
+}
+
+pub fn answer() -> bool {
+    let mut sheet = io::large_buffer();
+    let Word::Got(n) = input::read_blob(&mut sheet) else {
+        return false;
+    };
+    guard(input::part(&sheet, n));
+    true
+}

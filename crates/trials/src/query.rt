@@ -1,0 +1,66 @@
+// Request 5: one query on a table as given.
+use crate::input;
+use crate::input::Byte;
+use crate::input::Word;
+use crate::output;
+use judge::Queried;
+use sheet::State;
+ghost use Prim.Native.Nat.{_≤_};
+ghost use lib.ListN.{length};
+
+// Asks for the verdict at a state and writes the line of the answer.
+pub fn query(sheet: &[u8], state: State, table: &mut [u8]) {
+    output::text(b"query");
+    let answer = judge::querying::query(sheet, state, table);
+    match answer {
+        Queried::Judged { verdict, visits } => {
+            output::accepted();
+            output::truth(verdict);
+            output::number(visits as u64);
+        }
+        Queried::Refused(r) => {
+            output::refused(r);
+            output::truth(false);
+            output::number(0);
+        }
+    }
+    output::end_line();
+}
+
+pub fn write_table(table: &[u8]) {
+    output::text(b"table");
+    output::hex(table);
+    output::end_line();
+}
+
+fn query_once(sheet: &[u8], state: State, table: &mut [u8]) {
+    query(sheet, state, table);
+    write_table(table);
+}
+
+fn query_start(sheet: &[u8], state: State, buf: &mut [u8], n: usize)
+    requires { ⌜ n ≤ length (now buf) ⌝ }
+{
+    query_once(sheet, state, &mut buf[0..n]);
+}
+
+// Lends the query the first n bytes of buf.
+fn query_on(sheet: &[u8], state: State, buf: &mut [u8; 65536], n: u16) {
+    query_start(sheet, state, buf, n as usize);
+}
+
+pub fn answer() -> bool {
+    let mut sheet = io::large_buffer();
+    let mut table = io::large_buffer();
+    let Word::Got(s) = input::read_blob(&mut sheet) else {
+        return false;
+    };
+    let Byte::Got(b) = input::read_byte() else {
+        return false;
+    };
+    let Word::Got(n) = input::read_blob(&mut table) else {
+        return false;
+    };
+    query_on(input::part(&sheet, s), State(b), &mut table, n);
+    true
+}
