@@ -1,0 +1,395 @@
+//! The benchmark: the trial driver and this program, each a process that reads the same stored requests.
+
+use crate::compare::drive;
+use crate::gen::{self, Parts, Rng, Size};
+use crate::oracle;
+use crate::protocol::Request;
+use std::fmt::Write as _;
+use std::path::{Path, PathBuf};
+use std::process::{Command, Stdio};
+use std::time::Instant;
+
+const SEED: u64 = 20_261_115;
+const SHEETS: usize = 4;
+const SIZES: [(usize, usize); 5] = [(8, 1), (16, 2), (32, 3), (64, 4), (128, 6)];
+
+/// A plan of `n` states, each with 16 transitions of 4 actions to the next 8 states (fewer near the end).
+fn plan(r: &mut Rng, n: usize, back: bool) -> Vec<[u8; 3]> {
+    let mut t = Vec::new();
+    for i in 0..n {
+        let mut ways: Vec<[u8; 3]> = Vec::new();
+        for j in i + 1..(i + 9).min(n) {
+            (0..4).for_each(|a| ways.push([i as u8, a, j as u8]));
+        }
+        r.shuffle(&mut ways);
+        t.extend(ways.into_iter().take(16));
+        if back && i % 4 == 3 {
+            t.push([i as u8, r.below(4) as u8, r.below(i) as u8]);
+        }
+    }
+    t.sort();
+    t.dedup();
+    t
+}
+
+/// Sheets of a size: out of many made at random those about the upper quarter by the work they make.
+fn sheets(n: usize, binders: usize, loops: bool) -> Vec<Vec<u8>> {
+    let mut all: Vec<(u64, Vec<u8>)> = Vec::new();
+    let mut index = 0;
+    while all.len() < 60 {
+        let mut r = Rng::new(SEED, 1000 * n as u64 + 7 * index + u64::from(loops));
+        index += 1;
+        let z = Size { states: n, actions: 4, transitions: 0, entries: 8, nodes: (n / 2).min(64), binders, loops, guarded: false };
+        let p: Parts = gen::valid(&mut r, z);
+        let p = Parts { transitions: plan(&mut r, n, loops), ..p };
+        if p.nodes.iter().filter(|x| x[0] >= 7).count() != binders || p.nodes.len() != z.nodes {
+            continue;
+        }
+        let sheet = p.sheet();
+        let ok = oracle::read(&sheet).expect("a valid sheet").parts;
+        let work = if loops {
+            match oracle::meaning(&ok, 200_000) {
+                Some((_, w)) => w,
+                None => continue,
+            }
+        } else {
+            let mut table = vec![0; ok.table_len()];
+            (0..n).map(|s| oracle::query(&sheet, s as u8, &mut table).map_or(0, |q| q.1 as u64)).sum()
+        };
+        all.push((work, sheet));
+    }
+    all.sort();
+    all[45 - SHEETS / 2..45 + SHEETS / 2].iter().map(|v| v.1.clone()).collect()
+}
+
+struct Program {
+    path: String,
+    args: Vec<String>,
+}
+
+impl Program {
+    fn command(&self, under: &[String], input: &Path) -> Command {
+        let mut all: Vec<&String> = under.iter().collect();
+        all.push(&self.path);
+        all.extend(&self.args);
+        let mut c = Command::new(all[0]);
+        c.args(&all[1..]);
+        c.stdin(std::fs::File::open(input).expect("the stored requests")).stdout(Stdio::null()).stderr(Stdio::null());
+        c
+    }
+
+    fn instructions(&self, input: &Path, dir: &Path) -> Option<f64> {
+        let out = dir.join("callgrind.out");
+        let _ = std::fs::remove_file(&out);
+        let under = ["valgrind".into(), "--tool=callgrind".into(), format!("--callgrind-out-file={}", out.display())];
+        let ok = self.command(&under, input).status().ok()?.success();
+        let text = std::fs::read_to_string(&out).ok()?;
+        let line = text.lines().find(|l| l.starts_with("summary:")).or_else(|| text.lines().find(|l| l.starts_with("totals:")))?;
+        let n = line.split_whitespace().nth(1)?.parse().ok()?;
+        ok.then_some(n)
+    }
+
+    /// The shortest of some runs, in seconds.
+    fn time(&self, input: &Path, runs: usize) -> f64 {
+        (0..runs)
+            .map(|_| {
+                let mut c = self.command(&[], input);
+                let begun = Instant::now();
+                let _ = c.status();
+                begun.elapsed().as_secs_f64()
+            })
+            .fold(f64::INFINITY, f64::min)
+    }
+
+    fn output(&self, input: &Path) -> Vec<u8> {
+        self.command(&[], input).stdout(Stdio::piped()).output().map(|o| o.stdout).unwrap_or_default()
+    }
+}
+
+struct Row {
+    op: usize,
+    size: usize,
+    /// driver, Rust
+    instructions: [f64; 2],
+    seconds: [f64; 2],
+    /// Neither time is within the noise.
+    clear: bool,
+}
+
+const OPS: [&str; 4] = ["reading", "reference", "first query", "list of all states"];
+
+fn stream(requests: &[Request], times: usize) -> Vec<u8> {
+    let mut one = Vec::new();
+    requests.iter().for_each(|r| r.bytes(&mut one));
+    one.repeat(times)
+}
+
+fn list(sheets: &[Vec<u8>], states: &[u8]) -> Vec<Request> {
+    let make = |s: &Vec<u8>| {
+        let len = oracle::read(s).expect("a valid sheet").parts.table_len();
+        Request::List { sheet: s.clone(), table_len: len as u16, fill: 7, states: states.to_vec() }
+    };
+    sheets.iter().map(make).collect()
+}
+
+pub fn bench(trials: &str, numbers: &[u8], out: &str) -> i32 {
+    let me = std::env::current_exe().expect("the path of this program");
+    let dir: PathBuf = me.parent().expect("a folder").join("bench");
+    if let Err(e) = std::fs::create_dir_all(&dir).and_then(|_| std::fs::create_dir_all(out)) {
+        eprintln!("{e}");
+        return 2;
+    }
+    let trials = match std::fs::canonicalize(trials) {
+        Ok(p) => p.display().to_string(),
+        Err(e) => {
+            eprintln!("{trials}: {e}");
+            return 2;
+        }
+    };
+    let driver = Program { path: trials.clone(), args: vec![] };
+    let rust = Program { path: me.display().to_string(), args: vec!["serve".into()] };
+    let both = [&driver, &rust];
+    let store = |name: &str, bytes: &[u8]| {
+        let p = dir.join(format!("{name}.stdin"));
+        std::fs::write(&p, bytes).expect("the stored requests");
+        p
+    };
+    // the kinds of request that the driver answers
+    let tried = [vec![1, 0, 0], vec![2, 0, 0], vec![3, 0, 0], vec![4, 0, 0, 0, 0, 0, 0, 0]];
+    let has = |k: u8| numbers.contains(&k) && drive(&trials, &tried[k as usize - 1], 20).is_ok_and(|o| !o.0.is_empty());
+
+    let empty = store("empty", &[]);
+    let start: Vec<f64> = both.iter().map(|p| p.instructions(&empty, &dir).unwrap_or(f64::NAN)).collect();
+    if start.iter().any(|v| v.is_nan()) {
+        eprintln!("valgrind --tool=callgrind gave no count; is valgrind installed?");
+        return 2;
+    }
+    let start_time: Vec<f64> = both.iter().map(|p| p.time(&empty, 20)).collect();
+    // what a request costs by itself: a hundred readings of an empty sheet
+    let nothing = store("nothing", &[1, 0, 0].repeat(100));
+    let each: Vec<f64> = (0..2).map(|k| (both[k].instructions(&nothing, &dir).unwrap_or(f64::NAN) - start[k]) / 100.0).collect();
+
+    let mut rows: Vec<Row> = Vec::new();
+    let mut missing = Vec::new();
+    for (op, name) in OPS.iter().enumerate() {
+        if !has([1, 3, 4, 4][op]) {
+            missing.push(*name);
+            continue;
+        }
+        for &(n, binders) in &SIZES {
+            if op == 1 && n > 64 {
+                continue;
+            }
+            let (requests, base): (Vec<Request>, Vec<Request>) = match op {
+                0 => (sheets(n, binders, false).into_iter().map(Request::Read).collect(), vec![Request::Read(vec![]); SHEETS]),
+                1 => {
+                    let s = sheets(n, binders.min(2), true);
+                    (s.into_iter().map(Request::Reference).collect(), vec![Request::Reference(vec![]); SHEETS])
+                }
+                2 => {
+                    let s = sheets(n, binders, false);
+                    (list(&s, &[0]), list(&s, &[]))
+                }
+                _ => {
+                    let s = sheets(n, binders, false);
+                    let states: Vec<u8> = (0..n as u8).collect();
+                    (list(&s, &states), list(&s, &[]))
+                }
+            };
+            let tag = format!("{}-{n}", name.replace(' ', "-"));
+            let input = store(&tag, &stream(&requests, 1));
+            if driver.output(&input) != rust.output(&input) {
+                eprintln!("{name}, {n} states: the two programs do not answer alike; run compare");
+                return 1;
+            }
+            let base_input = store(&format!("{tag}-base"), &stream(&base, 1));
+            let mut row = Row { op, size: n, instructions: [0.0; 2], seconds: [0.0; 2], clear: true };
+            for k in 0..2 {
+                let whole = both[k].instructions(&input, &dir).unwrap_or(f64::NAN);
+                let without = both[k].instructions(&base_input, &dir).unwrap_or(f64::NAN);
+                row.instructions[k] = (whole - without) / SHEETS as f64;
+            }
+            // as many times over as Rust needs for a twentieth of a second, within 8 megabytes of input and output
+            let once = (row.instructions[1] * SHEETS as f64 / 3e9).max(1e-7);
+            let bytes = stream(&requests, 1).len() + driver.output(&input).len();
+            let times = ((0.05 / once) as usize).clamp(1, (8 << 20) / bytes.max(1) + 1);
+            let long = store(&tag, &stream(&requests, times));
+            let long_base = store(&format!("{tag}-base"), &stream(&base, times));
+            // the four runs take turns, so that a busy moment of the machine does not fall on one of them alone
+            let mut whole = [f64::INFINITY; 2];
+            let mut without = [f64::INFINITY; 2];
+            for _ in 0..9 {
+                for k in 0..2 {
+                    whole[k] = both[k].time(&long, 1).min(whole[k]);
+                    without[k] = both[k].time(&long_base, 1).min(without[k]);
+                }
+            }
+            for k in 0..2 {
+                row.seconds[k] = (whole[k] - without[k]) / (times * SHEETS) as f64;
+                row.clear &= whole[k] - without[k] > 0.15 * whole[k];
+            }
+            eprintln!(
+                "{name}, {n} states: instructions {:.0} / {:.0} = {:.2}, time {:.2} / {:.2} us = {:.2} ({times} times over)",
+                row.instructions[0],
+                row.instructions[1],
+                row.instructions[0] / row.instructions[1],
+                row.seconds[0] * 1e6,
+                row.seconds[1] * 1e6,
+                row.seconds[0] / row.seconds[1],
+            );
+            rows.push(row);
+        }
+    }
+    let page = page(&rows, &missing, &start, &start_time, &each);
+    let svg = plot(&rows);
+    for (name, text) in [("BENCHMARK.md", page), ("benchmark.svg", svg)] {
+        let p = Path::new(out).join(name);
+        if let Err(e) = std::fs::write(&p, text) {
+            eprintln!("{}: {e}", p.display());
+            return 2;
+        }
+        println!("{}", p.display());
+    }
+    0
+}
+
+fn grouped(v: f64) -> String {
+    let s = format!("{:.0}", v);
+    let mut out = String::new();
+    for (i, c) in s.chars().enumerate() {
+        if i > 0 && (s.len() - i) % 3 == 0 && c.is_ascii_digit() {
+            out.push(',');
+        }
+        out.push(c);
+    }
+    out
+}
+
+fn ratio(a: f64, b: f64, clear: bool) -> String {
+    if clear && a > 0.0 && b > 0.0 { format!("{:.2}", a / b) } else { "in the noise".into() }
+}
+
+fn cpu() -> String {
+    let text = std::fs::read_to_string("/proc/cpuinfo").unwrap_or_default();
+    let line = text.lines().find(|l| l.starts_with("model name")).and_then(|l| l.split(':').nth(1));
+    line.map_or("an unnamed processor".into(), |v| v.trim().to_string())
+}
+
+fn page(rows: &[Row], missing: &[&str], start: &[f64], start_time: &[f64], each: &[f64]) -> String {
+    let mut o = String::new();
+    o += "# Benchmark: the trial driver against a plain Rust program\n\n";
+    o += "Made by one command, in `tests/differential` (this page and the plot are written anew by it):\n\n";
+    o += "    cargo run --release --offline -- bench ../../target/bin/trials\n\n";
+    o += "Both programs are processes that read the same stored requests (`target/release/bench/*.stdin`) on standard input and\n\
+          write the same lines; the command checks that they do. The driver is the compiled Rattle program. The Rust program is\n\
+          `differential serve`, the implementation that the differential tests compare with: linear reading, a successor index,\n\
+          one mask for each action formula, the lent table as its memo; each call takes a sheet and reads it, as in the driver.\n\n";
+    o += "Sheets grow in every part: n states, about 16 n transitions of 4 actions, 8 action entries, n / 2 nodes, 1 to 6 binders\n\
+          (reference: at most 2 binders, some transitions back, and n up to 64). Each figure is for one request, the mean over 4\n\
+          sheets about the upper quarter, by the work they make, of 60 made at random. A query's figure is that of the request less that of the same request with no query (clearing and writing out\n\
+          the table); the others are less that of the same request with a sheet of no bytes. Instructions are those of\n\
+          `valgrind --tool=callgrind`; times are the shortest of 9 runs, the programs taking turns, and \"in the noise\" stands\n\
+          where what is left after taking away is under 15% of what was measured.\n\n";
+    let _ = writeln!(
+        o,
+        "An empty run: driver {} instructions and {:.2} ms, Rust {} and {:.2} ms. A request with a sheet of no bytes, which is\n\
+         not in the figures below: driver {} instructions, Rust {}. Processor: {}.\n",
+        grouped(start[0]), start_time[0] * 1e3, grouped(start[1]), start_time[1] * 1e3, grouped(each[0]), grouped(each[1]), cpu()
+    );
+    if !missing.is_empty() {
+        let _ = writeln!(o, "Not measured, since this driver does not answer the request: {}.\n", missing.join(", "));
+    }
+    o += "![Instructions for one request, and their ratio, by the number of states](benchmark.svg)\n\n";
+    o += "\"Growth\" is the factor over the line before, where states, transitions and nodes are half as many.\n\n";
+    o += "| call | states | driver, instructions | growth | Rust, instructions | growth | ratio | driver, us | Rust, us | ratio of time |\n";
+    o += "|---|---:|---:|---:|---:|---:|---:|---:|---:|---:|\n";
+    for (i, r) in rows.iter().enumerate() {
+        let before = (i > 0 && rows[i - 1].op == r.op).then(|| &rows[i - 1]);
+        let growth = |k: usize| before.map_or(String::new(), |b| format!("{:.1}", r.instructions[k] / b.instructions[k]));
+        let _ = writeln!(
+            o,
+            "| {} | {} | {} | {} | {} | {} | {} | {:.2} | {:.2} | {} |",
+            OPS[r.op], r.size, grouped(r.instructions[0]), growth(0), grouped(r.instructions[1]), growth(1),
+            ratio(r.instructions[0], r.instructions[1], true), r.seconds[0] * 1e6, r.seconds[1] * 1e6, ratio(r.seconds[0], r.seconds[1], r.clear)
+        );
+    }
+    o += "\nEach query of a list reads the sheet again and looks at its whole table for a byte over 2 (refusal 21): S x N x (B + 1)\n\
+          bytes, 57,344 at the largest size, so that a list grows faster than the square of the sheet in the driver. rustc turns\n\
+          that look into steps of 16 bytes, which is most of the growth of the ratio: with a look byte by byte in Rust as well,\n\
+          the list's ratio was 1.46 at 32 states and 1.18 at 128 (measured once, on 15 November 2026).\n";
+    o
+}
+
+fn plot(rows: &[Row]) -> String {
+    const COLOURS: [&str; 4] = ["#0072b2", "#d55e00", "#009e73", "#cc79a7"];
+    let mut o = String::new();
+    o += "<svg xmlns=\"http://www.w3.org/2000/svg\" width=\"960\" height=\"470\" viewBox=\"0 0 960 470\" font-family=\"sans-serif\" font-size=\"13\">\n";
+    o += "<rect width=\"960\" height=\"470\" fill=\"#ffffff\"/>\n";
+    let good: Vec<&Row> = rows.iter().filter(|r| r.instructions.iter().all(|v| *v > 0.0)).collect();
+    let x = |left: f64, n: usize| left + (n as f64 / 8.0).log2() * 92.0;
+    // the left panel: instructions
+    let low = good.iter().flat_map(|r| r.instructions).fold(f64::INFINITY, f64::min).log10().floor();
+    let high = good.iter().flat_map(|r| r.instructions).fold(1.0, f64::max).log10().ceil();
+    let y = |v: f64| 370.0 - (v.log10() - low) / (high - low).max(1.0) * 310.0;
+    // the right panel: ratios, from 0
+    let top = good.iter().map(|r| r.instructions[0] / r.instructions[1]).fold(1.0, f64::max).ceil();
+    let z = |v: f64| 370.0 - v / top * 310.0;
+    let mut frame = |left: f64, title: &str| {
+        let _ = writeln!(o, "<text x=\"{}\" y=\"34\" font-size=\"15\" fill=\"#222\">{title}</text>", left - 10.0);
+        let _ = writeln!(o, "<line x1=\"{}\" y1=\"370\" x2=\"{}\" y2=\"370\" stroke=\"#444\"/>", left - 10.0, left + 378.0);
+        for (n, _) in SIZES {
+            let _ = writeln!(o, "<text x=\"{}\" y=\"390\" text-anchor=\"middle\" fill=\"#444\">{n}</text>", x(left, n));
+        }
+        let _ = writeln!(o, "<text x=\"{}\" y=\"410\" text-anchor=\"middle\" fill=\"#444\">states</text>", left + 184.0);
+    };
+    frame(80.0, "Instructions for one request (log scale)");
+    frame(560.0, "Driver's instructions over Rust's");
+    let mut tick = |left: f64, at: f64, text: String| {
+        let _ = writeln!(o, "<line x1=\"{}\" y1=\"{at:.1}\" x2=\"{}\" y2=\"{at:.1}\" stroke=\"#e2e2e2\"/>", left - 10.0, left + 378.0);
+        let _ = writeln!(o, "<text x=\"{}\" y=\"{:.1}\" text-anchor=\"end\" fill=\"#444\">{text}</text>", left - 16.0, at + 4.0);
+    };
+    let mut e = low;
+    while e <= high {
+        let text = match e as i32 {
+            v if v >= 9 => format!("{}G", 10u64.pow(v as u32 - 9)),
+            v if v >= 6 => format!("{}M", 10u64.pow(v as u32 - 6)),
+            v if v >= 3 => format!("{}k", 10u64.pow(v as u32 - 3)),
+            v => format!("{}", 10u64.pow(v.max(0) as u32)),
+        };
+        tick(80.0, y(10f64.powf(e)), text);
+        e += 1.0;
+    }
+    let step = (top / 6.0).ceil().max(1.0);
+    let mut v = 0.0;
+    while v <= top {
+        tick(560.0, z(v), format!("{v:.0}"));
+        v += step;
+    }
+    let line = |points: &[(f64, f64)], colour: &str, dash: &str| {
+        let path: Vec<String> = points.iter().map(|p| format!("{:.1},{:.1}", p.0, p.1)).collect();
+        let mut s = format!("<polyline points=\"{}\" fill=\"none\" stroke=\"{colour}\" stroke-width=\"2\"{dash}/>\n", path.join(" "));
+        for p in points {
+            let _ = writeln!(s, "<circle cx=\"{:.1}\" cy=\"{:.1}\" r=\"3\" fill=\"{colour}\"/>", p.0, p.1);
+        }
+        s
+    };
+    let mut at = 70.0;
+    for op in 0..OPS.len() {
+        let mine: Vec<&&Row> = good.iter().filter(|r| r.op == op).collect();
+        if mine.is_empty() {
+            continue;
+        }
+        for k in 0..2 {
+            let points: Vec<(f64, f64)> = mine.iter().map(|r| (x(80.0, r.size), y(r.instructions[k]))).collect();
+            o += &line(&points, COLOURS[op], if k == 0 { "" } else { " stroke-dasharray=\"5 4\"" });
+        }
+        let points: Vec<(f64, f64)> = mine.iter().map(|r| (x(560.0, r.size), z(r.instructions[0] / r.instructions[1]))).collect();
+        o += &line(&points, COLOURS[op], "");
+        let _ = writeln!(o, "<line x1=\"{at}\" y1=\"440\" x2=\"{}\" y2=\"440\" stroke=\"{}\" stroke-width=\"3\"/>", at + 24.0, COLOURS[op]);
+        let _ = writeln!(o, "<text x=\"{}\" y=\"444\" fill=\"#222\">{}</text>", at + 30.0, OPS[op]);
+        at += 60.0 + 7.5 * OPS[op].len() as f64;
+    }
+    let _ = writeln!(o, "<text x=\"{at}\" y=\"444\" fill=\"#222\">solid: driver, dashed: Rust</text>");
+    o += "</svg>\n";
+    o
+}

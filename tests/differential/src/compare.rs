@@ -1,0 +1,543 @@
+//! Comparisons: stored vectors, the oracle with itself, and the trial driver with the oracle.
+
+use crate::gen::{self, Parts, Rng};
+use crate::oracle;
+use crate::protocol::{self, Request};
+use std::io::{Read, Write};
+use std::process::{Command, Stdio};
+use std::time::{Duration, Instant};
+
+pub fn clock() -> u64 {
+    std::time::SystemTime::now().duration_since(std::time::UNIX_EPOCH).map_or(1, |d| d.as_secs())
+}
+
+pub fn vectors(dir: &str) -> i32 {
+    let mut names: Vec<_> = match std::fs::read_dir(dir) {
+        Ok(d) => d.flatten().map(|e| e.path()).filter(|p| p.extension().is_some_and(|x| x == "stdin")).collect(),
+        Err(e) => {
+            eprintln!("{dir}: {e}");
+            return 2;
+        }
+    };
+    names.sort();
+    let mut bad = i32::from(names.is_empty());
+    for p in names {
+        let (Ok(input), Ok(want)) = (std::fs::read(&p), std::fs::read(p.with_extension("stdout"))) else {
+            println!("{}: cannot be read", p.display());
+            bad = 1;
+            continue;
+        };
+        let mut count = 0;
+        let mut rest = &want[..];
+        let mut inp = protocol::Input { rest: &input };
+        let mut good = true;
+        while let Some(r) = inp.request() {
+            let mut got = Vec::new();
+            protocol::answer(&r, &mut got);
+            if !rest.starts_with(&got) {
+                println!("{}: request {count} differs:", p.display());
+                println!("  oracle {}", clip(&got));
+                println!("  stored {}", clip(&rest[..got.len().min(rest.len())]));
+                good = false;
+                break;
+            }
+            rest = &rest[got.len()..];
+            count += 1;
+        }
+        if good && !rest.is_empty() {
+            println!("{}: {} stored bytes more than the oracle gives", p.display(), rest.len());
+            good = false;
+        }
+        println!("{}: {count} requests {}", p.display(), if good { "equal" } else { "NOT equal" });
+        bad |= i32::from(!good);
+    }
+    bad
+}
+
+/// On a plan without loops a query's verdict is Table 1's; visits add up to the cells filled; a second query fills none.
+pub fn selfcheck(seed: u64, count: u64) -> i32 {
+    let (mut done, mut yes) = (0u64, 0u64);
+    for i in 0..count {
+        let mut r = Rng::new(seed, i);
+        let mut z = gen::any_size(&mut r);
+        z.loops = false;
+        let sheet = gen::valid(&mut r, z).sheet();
+        let p = match oracle::read(&sheet) {
+            Ok(s) => s.parts,
+            Err(e) => {
+                println!("seed {seed}, sheet {i}: a valid sheet was refused {e:?}");
+                return 1;
+            }
+        };
+        let Some((truth, _)) = oracle::meaning(&p, 300_000) else { continue };
+        if p.states <= 64 && oracle::reference(&sheet) != Ok(truth as u64) {
+            println!("seed {seed}, sheet {i}: the two reference judges differ");
+            return 1;
+        }
+        let mut table = vec![0; p.table_len()];
+        let mut sum = 0;
+        for s in 0..p.states as u8 {
+            let Ok((v, k)) = oracle::query(&sheet, s, &mut table) else { return 1 };
+            sum += k;
+            if v != (truth >> s & 1 == 1) || oracle::query(&sheet, s, &mut table) != Ok((v, 0)) {
+                println!("seed {seed}, sheet {i}, state {s}: the query differs from Table 1: {sheet:?}");
+                return 1;
+            }
+            yes += u64::from(v);
+            done += 1;
+        }
+        if sum != table.iter().filter(|&&v| v != 0).count() {
+            println!("seed {seed}, sheet {i}: visits are not the cells filled");
+            return 1;
+        }
+    }
+    println!("seed {seed}: {count} sheets, {done} states agree with Table 1 ({yes} true)");
+    0
+}
+
+pub fn clip(b: &[u8]) -> String {
+    let s = String::from_utf8_lossy(b);
+    let s = s.trim_end_matches('\n').replace('\n', " | ");
+    if s.len() > 600 { format!("{}... ({} characters)", s.chars().take(600).collect::<String>(), s.len()) } else { s }
+}
+
+/// Runs the driver on an input; what it wrote, and a word on how it ended where that was not well.
+pub fn drive(trials: &str, input: &[u8], seconds: u64) -> Result<(Vec<u8>, Option<String>), String> {
+    let mut child = Command::new(trials)
+        .stdin(Stdio::piped())
+        .stdout(Stdio::piped())
+        .stderr(Stdio::null())
+        .spawn()
+        .map_err(|e| format!("{trials}: {e}"))?;
+    let mut to = child.stdin.take().expect("a pipe");
+    let mut from = child.stdout.take().expect("a pipe");
+    let bytes = input.to_vec();
+    let writer = std::thread::spawn(move || {
+        let _ = to.write_all(&bytes);
+    });
+    let reader = std::thread::spawn(move || {
+        let mut out = Vec::new();
+        let _ = from.read_to_end(&mut out);
+        out
+    });
+    let begun = Instant::now();
+    let mut ended = None;
+    let mut nap = Duration::from_micros(200);
+    loop {
+        match child.try_wait() {
+            Ok(Some(status)) => {
+                if !status.success() {
+                    ended = Some(format!("{status}"));
+                }
+                break;
+            }
+            Ok(None) if begun.elapsed().as_secs() >= seconds => {
+                let _ = child.kill();
+                let _ = child.wait();
+                ended = Some(format!("no end within {seconds} s"));
+                break;
+            }
+            Ok(None) => {
+                std::thread::sleep(nap);
+                nap = (nap * 2).min(Duration::from_millis(20));
+            }
+            Err(e) => return Err(e.to_string()),
+        }
+    }
+    let _ = writer.join();
+    Ok((reader.join().unwrap_or_default(), ended))
+}
+
+/// Does the driver answer this one request otherwise than the oracle?
+fn differs(trials: &str, request: &Request) -> bool {
+    let mut b = Vec::new();
+    request.bytes(&mut b);
+    match drive(trials, &b, 20) {
+        Ok((out, ended)) => ended.is_some() || out != protocol::answers(&b),
+        Err(_) => false,
+    }
+}
+
+const BATCH: u64 = 100;
+
+pub fn compare(trials: &str, seed: u64, count: u64, numbers: &[u8], shrinking: bool) -> i32 {
+    println!("seed {seed}, {count} requests of the kinds {numbers:?}");
+    let begun = Instant::now();
+    let mut tally: std::collections::BTreeMap<(u8, String), u64> = Default::default();
+    let (mut done, mut differences, mut told) = (0u64, 0u64, 0);
+    while done < count {
+        let n = BATCH.min(count - done);
+        let batch: Vec<Request> = (done..done + n).map(|i| gen::request_at(seed, i, numbers)).collect();
+        let mut input = Vec::new();
+        batch.iter().for_each(|r| r.bytes(&mut input));
+        let mut ending = Rng::new(seed ^ 0x5eed, done);
+        input.extend(gen::tail(&mut ending, numbers));
+        let (out, ended) = match drive(trials, &input, 300) {
+            Ok(v) => v,
+            Err(e) => {
+                println!("{e}");
+                return 2;
+            }
+        };
+        let mut rest = &out[..];
+        for (k, r) in batch.iter().enumerate() {
+            let want = protocol::expected(r);
+            let first = String::from_utf8_lossy(&want);
+            let refusal = first.split([' ', '\n']).nth(1).unwrap_or("").to_string();
+            *tally.entry((r.number(), refusal)).or_default() += 1;
+            // resynchronise by the number of lines
+            let lines = want.iter().filter(|&&c| c == b'\n').count();
+            let end = rest.iter().enumerate().filter(|(_, &c)| c == b'\n').nth(lines - 1).map_or(rest.len(), |(i, _)| i + 1);
+            let got = &rest[..end];
+            rest = &rest[end..];
+            if got != want {
+                differences += 1;
+                if told < 5 {
+                    told += 1;
+                    println!("DIFFERENCE at request {} of seed {seed} (a request {})", done + k as u64, r.number());
+                    println!("  oracle {}", clip(&want));
+                    println!("  driver {}", clip(got));
+                    if !shrinking {
+                        continue;
+                    }
+                    if differs(trials, r) {
+                        let small = shrink(r.clone(), &|r| differs(trials, r));
+                        describe(trials, &small);
+                    } else {
+                        println!("  alone, the request is answered alike: the difference needs what stands before it in its batch");
+                    }
+                }
+            }
+        }
+        if !rest.is_empty() {
+            differences += 1;
+            println!("DIFFERENCE after the batch at {done} of seed {seed}: more is written than asked: {}", clip(rest));
+        }
+        if let Some(e) = ended {
+            println!("the driver ended with {e} in the batch at {done} of seed {seed}");
+            differences += 1;
+            if e.starts_with("no end") {
+                return 1;
+            }
+        }
+        done += n;
+        if done % 2000 == 0 {
+            eprintln!("{done} requests, {differences} differences, {:.1} s", begun.elapsed().as_secs_f64());
+        }
+    }
+    let mut line = String::new();
+    let mut last = 0;
+    for ((kind, refusal), n) in &tally {
+        if *kind != last {
+            line += &format!("\n  request {kind}: number");
+            last = *kind;
+        }
+        line += &format!(" {refusal}:{n}");
+    }
+    println!("refusal numbers met (in a request's first line):{line}");
+    println!("seed {seed}: {done} requests compared, {differences} differences, {:.1} s", begun.elapsed().as_secs_f64());
+    i32::from(differences > 0)
+}
+
+fn describe(trials: &str, r: &Request) {
+    let mut b = Vec::new();
+    r.bytes(&mut b);
+    println!("  shrunk: request {} of {} bytes", r.number(), b.len());
+    match r {
+        Request::Read(s) | Request::Guard(s) | Request::Reference(s) => println!("    sheet {s:?}"),
+        Request::List { sheet, table_len, fill, states } => {
+            println!("    sheet {sheet:?}\n    table of {table_len} bytes {fill}, states {states:?}")
+        }
+        Request::Query { sheet, state, table } => println!("    sheet {sheet:?}\n    state {state}, table {table:?}"),
+        Request::Write { bodies, out_len, fill } => {
+            println!("    plan {:?}\n    actions {:?}\n    rule {:?}\n    output of {out_len} bytes {fill}", bodies[0], bodies[1], bodies[2])
+        }
+    }
+    println!("    oracle {}", clip(&protocol::answers(&b)));
+    if let Ok((out, ended)) = drive(trials, &b, 20) {
+        println!("    driver {}{}", clip(&out), ended.map_or(String::new(), |e| format!(" ({e})")));
+    }
+}
+
+// ---- shrinking
+
+/// A rule as a tree.
+#[derive(Clone)]
+struct Tree {
+    kind: u8,
+    x: u8,
+    below: Vec<Tree>,
+}
+
+fn tree(nodes: &[[u8; 3]], i: usize) -> Tree {
+    let [kind, x, y] = nodes[i];
+    let below = match kind {
+        2 | 3 => vec![tree(nodes, x as usize), tree(nodes, y as usize)],
+        4 | 5 | 7 | 8 => vec![tree(nodes, y as usize)],
+        _ => vec![],
+    };
+    Tree { kind, x, below }
+}
+
+/// The nodes of a tree, its binders numbered afresh; None where a variable lost its binder.
+fn flat(t: &Tree, open: &mut Vec<(u8, u8)>, bound: &mut u8, out: &mut Vec<[u8; 3]>) -> Option<()> {
+    let at = out.len();
+    let next = at as u8 + 1;
+    match t.kind {
+        2 | 3 => {
+            out.push([t.kind, next, 0]);
+            flat(&t.below[0], open, bound, out)?;
+            out[at][2] = out.len() as u8;
+            flat(&t.below[1], open, bound, out)?;
+        }
+        4 | 5 => {
+            out.push([t.kind, t.x, next]);
+            flat(&t.below[0], open, bound, out)?;
+        }
+        7 | 8 => {
+            out.push([t.kind, *bound, next]);
+            open.push((t.x, *bound));
+            *bound += 1;
+            flat(&t.below[0], open, bound, out)?;
+            open.pop();
+        }
+        6 => out.push([6, open.iter().rev().find(|b| b.0 == t.x)?.1, 0]),
+        _ => out.push([t.kind, 0, 0]),
+    }
+    Some(())
+}
+
+/// Every tree with one part replaced by one of its children or by a leaf.
+fn smaller(t: &Tree) -> Vec<Tree> {
+    let mut out = t.below.clone();
+    if t.kind > 1 {
+        for kind in 0..2 {
+            out.push(Tree { kind, x: 0, below: vec![] });
+        }
+    }
+    for i in 0..t.below.len() {
+        for c in smaller(&t.below[i]) {
+            let mut u = t.clone();
+            u.below[i] = c;
+            out.push(u);
+        }
+    }
+    out
+}
+
+fn split3(b: &[u8]) -> Vec<[u8; 3]> {
+    b.chunks_exact(3).map(|c| [c[0], c[1], c[2]]).collect()
+}
+
+/// Smaller bodies of a plan, an action table and a rule that are valid.
+fn smaller_parts(b: &[Vec<u8>; 3]) -> Vec<[Vec<u8>; 3]> {
+    let Ok(ok) = oracle::read_parts(&b[0], &b[1], &b[2]) else { return vec![] };
+    let p = Parts {
+        states: b[0][0],
+        actions: b[0][1],
+        transitions: split3(ok.transitions),
+        entries: split3(ok.entries),
+        nodes: split3(ok.nodes),
+    };
+    let mut out = Vec::new();
+    // transitions, in halves first
+    let n = p.transitions.len();
+    let mut step = n;
+    while step > 0 {
+        let mut i = 0;
+        while i < n && out.len() < 400 {
+            let mut q = p.clone();
+            q.transitions.drain(i..(i + step).min(n));
+            out.push(q);
+            i += step;
+        }
+        step /= 2;
+    }
+    // the rule
+    for t in smaller(&tree(&p.nodes, 0)) {
+        let mut nodes = Vec::new();
+        if flat(&t, &mut Vec::new(), &mut 0, &mut nodes).is_some() {
+            let mut q = p.clone();
+            q.nodes = nodes;
+            out.push(q);
+        }
+    }
+    // entries: one out, the numbers above it one down
+    for i in (0..p.entries.len()).rev() {
+        let mut q = p.clone();
+        q.entries.remove(i);
+        let down = |v: &mut u8| if *v as usize >= i && *v > 0 { *v -= 1 };
+        for e in q.entries.iter_mut() {
+            if e[0] >= 3 {
+                down(&mut e[1]);
+            }
+            if e[0] == 3 || e[0] == 4 {
+                down(&mut e[2]);
+            }
+        }
+        for e in q.nodes.iter_mut() {
+            if e[0] == 4 || e[0] == 5 {
+                down(&mut e[1]);
+            }
+        }
+        out.push(q);
+    }
+    // states and actions
+    for s in [p.states / 2, p.states - 1] {
+        let mut q = p.clone();
+        q.states = s;
+        q.transitions.retain(|t| t[0] < s && t[2] < s);
+        out.push(q);
+    }
+    for a in [p.actions / 2, p.actions.saturating_sub(1)] {
+        let mut q = p.clone();
+        q.actions = a;
+        q.transitions.retain(|t| t[1] < a);
+        if a < p.actions {
+            out.push(q);
+        }
+    }
+    out.into_iter().map(|q| q.bodies()).collect()
+}
+
+/// Smaller byte strings, in pieces of falling size; with `triples`, pieces of three bytes after the first `head`.
+fn smaller_bytes(b: &[u8]) -> Vec<Vec<u8>> {
+    let mut out = Vec::new();
+    let mut step = b.len();
+    while step > 0 {
+        let mut i = 0;
+        while i < b.len() && out.len() < 300 {
+            let mut c = b.to_vec();
+            c.drain(i..(i + step).min(b.len()));
+            out.push(c);
+            i += step;
+        }
+        step /= 2;
+    }
+    out
+}
+
+/// Smaller bodies where some are damaged: a triple out and the count one down.
+fn smaller_bodies(b: &[Vec<u8>; 3]) -> Vec<[Vec<u8>; 3]> {
+    let mut out = smaller_parts(b);
+    for k in 0..3 {
+        let head = if k == 0 { 4 } else { 1 };
+        if b[k].len() >= head + 3 {
+            let n = (b[k].len() - head) / 3;
+            let mut step = n;
+            while step > 0 {
+                let mut i = 0;
+                while i < n && out.len() < 900 {
+                    let m = (i + step).min(n) - i;
+                    let mut c = b.clone();
+                    c[k].drain(head + 3 * i..head + 3 * (i + m));
+                    if k == 0 {
+                        let t = (c[0][2] as u16 | (c[0][3] as u16) << 8).wrapping_sub(m as u16);
+                        c[0][2..4].copy_from_slice(&t.to_le_bytes());
+                    } else {
+                        c[k][0] = c[k][0].wrapping_sub(m as u8);
+                    }
+                    out.push(c);
+                    i += step;
+                }
+                step /= 2;
+            }
+        }
+        for c in smaller_bytes(&b[k]).into_iter().take(60) {
+            let mut d = b.clone();
+            d[k] = c;
+            out.push(d);
+        }
+    }
+    out
+}
+
+fn smaller_sheets(s: &[u8]) -> Vec<Vec<u8>> {
+    let mut out = Vec::new();
+    if let Ok(c) = oracle::contents(s) {
+        let b = c.map(|(o, l)| s[o..o + l].to_vec());
+        out.extend(smaller_bodies(&b).iter().map(|b| oracle::assemble(&b[0], &b[1], &b[2])));
+    }
+    out.extend(smaller_bytes(s));
+    out
+}
+
+fn candidates(r: &Request) -> Vec<Request> {
+    match r {
+        Request::Read(s) => smaller_sheets(s).into_iter().map(Request::Read).collect(),
+        Request::Guard(s) => smaller_sheets(s).into_iter().map(Request::Guard).collect(),
+        Request::Reference(s) => smaller_sheets(s).into_iter().map(Request::Reference).collect(),
+        Request::List { sheet, table_len, fill, states } => {
+            let mut out: Vec<Request> = smaller_bytes(states)
+                .into_iter()
+                .map(|states| Request::List { sheet: sheet.clone(), table_len: *table_len, fill: *fill, states })
+                .collect();
+            for s in smaller_sheets(sheet) {
+                // a table that is too long by as much as before, or the same
+                let was = oracle::read(sheet).map_or(0, |s| s.parts.table_len());
+                let now = oracle::read(&s).map_or(0, |s| s.parts.table_len());
+                let fit = (*table_len as usize + now).saturating_sub(was) as u16;
+                for table_len in [fit, *table_len] {
+                    out.push(Request::List { sheet: s.clone(), table_len, fill: *fill, states: states.clone() });
+                }
+            }
+            out
+        }
+        Request::Query { sheet, state, table } => {
+            let mut out = Vec::new();
+            if table.iter().any(|&v| v != 0) {
+                out.push(Request::Query { sheet: sheet.clone(), state: *state, table: vec![0; table.len()] });
+            }
+            for s in smaller_sheets(sheet) {
+                let was = oracle::read(sheet).map_or(0, |s| s.parts.table_len());
+                let now = oracle::read(&s).map_or(0, |s| s.parts.table_len());
+                let fit = (table.len() + now).saturating_sub(was).min(table.len());
+                out.push(Request::Query { sheet: s.clone(), state: *state, table: table[..fit].to_vec() });
+                out.push(Request::Query { sheet: s, state: *state, table: vec![0; fit] });
+            }
+            for i in (0..table.len()).filter(|&i| table[i] != 0).take(200) {
+                let mut t = table.clone();
+                t[i] = 0;
+                out.push(Request::Query { sheet: sheet.clone(), state: *state, table: t });
+            }
+            for s in 0..*state {
+                out.push(Request::Query { sheet: sheet.clone(), state: s, table: table.clone() });
+            }
+            out
+        }
+        Request::Write { bodies, out_len, fill } => {
+            let was: usize = bodies.iter().map(Vec::len).sum();
+            let mut out = Vec::new();
+            for b in smaller_bodies(bodies) {
+                let now: usize = b.iter().map(Vec::len).sum();
+                let fit = (*out_len as usize + now).saturating_sub(was) as u16;
+                for out_len in [fit, *out_len] {
+                    out.push(Request::Write { bodies: b.clone(), out_len, fill: *fill });
+                }
+            }
+            for l in [0, out_len / 2, out_len.saturating_sub(1)] {
+                if l < *out_len {
+                    out.push(Request::Write { bodies: bodies.clone(), out_len: l, fill: *fill });
+                }
+            }
+            out
+        }
+    }
+}
+
+/// The first smaller request that still differs, again and again, for at most a minute.
+pub fn shrink(mut r: Request, bad: &dyn Fn(&Request) -> bool) -> Request {
+    let begun = Instant::now();
+    'again: loop {
+        for c in candidates(&r) {
+            if begun.elapsed().as_secs() > 60 {
+                return r;
+            }
+            if c != r && bad(&c) {
+                r = c;
+                continue 'again;
+            }
+        }
+        return r;
+    }
+}

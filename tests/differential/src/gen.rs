@@ -1,0 +1,771 @@
+//! Requests made from a seed: request number i of a seed is always the same.
+
+use crate::oracle::{self, assemble};
+use crate::protocol::Request;
+
+pub struct Rng(u64);
+
+impl Rng {
+    pub fn new(seed: u64, index: u64) -> Rng {
+        let mut r = Rng(seed.wrapping_mul(0x9e37_79b9_7f4a_7c15) ^ index.wrapping_mul(0xd1b5_4a32_d192_ed03));
+        r.next();
+        r.next();
+        r
+    }
+    pub fn next(&mut self) -> u64 {
+        // splitmix64
+        self.0 = self.0.wrapping_add(0x9e37_79b9_7f4a_7c15);
+        let mut z = self.0;
+        z = (z ^ z >> 30).wrapping_mul(0xbf58_476d_1ce4_e5b9);
+        z = (z ^ z >> 27).wrapping_mul(0x94d0_49bb_1331_11eb);
+        z ^ z >> 31
+    }
+    /// 0 to n - 1.
+    pub fn below(&mut self, n: usize) -> usize {
+        (self.next() % n.max(1) as u64) as usize
+    }
+    /// a to b, both included.
+    pub fn range(&mut self, a: usize, b: usize) -> usize {
+        a + self.below(b - a + 1)
+    }
+    pub fn chance(&mut self, percent: usize) -> bool {
+        self.below(100) < percent
+    }
+    pub fn byte(&mut self) -> u8 {
+        self.next() as u8
+    }
+    pub fn pick<T: Copy>(&mut self, from: &[T]) -> T {
+        from[self.below(from.len())]
+    }
+    pub fn shuffle<T>(&mut self, v: &mut [T]) {
+        for i in (1..v.len()).rev() {
+            v.swap(i, self.below(i + 1));
+        }
+    }
+}
+
+/// A sheet in parts, so that it can be damaged or shrunk part by part.
+#[derive(Clone)]
+pub struct Parts {
+    pub states: u8,
+    pub actions: u8,
+    pub transitions: Vec<[u8; 3]>,
+    pub entries: Vec<[u8; 3]>,
+    pub nodes: Vec<[u8; 3]>,
+}
+
+pub fn plan_body(p: &Parts) -> Vec<u8> {
+    let mut b = vec![p.states, p.actions];
+    b.extend((p.transitions.len() as u16).to_le_bytes());
+    b.extend(p.transitions.concat());
+    b
+}
+
+pub fn list_body(v: &[[u8; 3]]) -> Vec<u8> {
+    let mut b = vec![v.len() as u8];
+    b.extend(v.concat());
+    b
+}
+
+impl Parts {
+    pub fn bodies(&self) -> [Vec<u8>; 3] {
+        [plan_body(self), list_body(&self.entries), list_body(&self.nodes)]
+    }
+    pub fn sheet(&self) -> Vec<u8> {
+        let b = self.bodies();
+        assemble(&b[0], &b[1], &b[2])
+    }
+}
+
+/// What a valid sheet is to be like.
+#[derive(Clone, Copy)]
+pub struct Size {
+    pub states: usize,
+    pub actions: usize,
+    pub transitions: usize,
+    pub entries: usize,
+    pub nodes: usize,
+    pub binders: usize,
+    pub loops: bool,
+    pub guarded: bool,
+}
+
+pub fn any_size(r: &mut Rng) -> Size {
+    let states = match r.below(20) {
+        0..=7 => r.range(1, 5),
+        8..=14 => r.range(2, 16),
+        15..=17 => r.range(10, 64),
+        18 => r.range(60, 128),
+        _ => r.pick(&[1, 63, 64, 65, 127, 128]),
+    };
+    let actions = match r.below(10) {
+        0 => 0,
+        1..=7 => r.range(1, 6),
+        8 => r.range(1, 255),
+        _ => r.pick(&[1, 63, 64, 65, 127, 128, 129, 192, 193, 254, 255]),
+    };
+    let transitions = match r.below(20) {
+        0 => 0,
+        1..=12 => r.range(0, 2 * states),
+        13..=17 => r.range(0, 6 * states),
+        18 => r.range(0, 2048),
+        _ => 2048,
+    };
+    let entries = match r.below(10) {
+        0 => 0,
+        1..=7 => r.range(1, 8),
+        8 => r.range(1, 32),
+        _ => 32,
+    };
+    let nodes = match r.below(20) {
+        0..=5 => r.range(1, 6),
+        6..=15 => r.range(3, 24),
+        16..=18 => r.range(16, 64),
+        _ => 64,
+    };
+    let binders = match r.below(10) {
+        0 => 0,
+        1..=6 => r.range(1, 3),
+        7 | 8 => r.range(1, 6),
+        _ => 6,
+    };
+    Size { states, actions, transitions, entries, nodes, binders, loops: r.chance(25), guarded: r.chance(40) }
+}
+
+pub fn valid(r: &mut Rng, z: Size) -> Parts {
+    let (s, a) = (z.states, z.actions);
+    // the plan
+    let mut order: Vec<u8> = (0..s as u8).collect();
+    match r.below(3) {
+        0 => {}
+        1 => order.reverse(),
+        _ => r.shuffle(&mut order),
+    }
+    let near = r.chance(40);
+    let mut transitions = Vec::new();
+    if a > 0 {
+        for _ in 0..z.transitions {
+            let (mut i, mut j) = (r.below(s), r.below(s));
+            if near {
+                j = (i + r.range(1, 3)).min(s - 1);
+            }
+            if !z.loops {
+                if i == j {
+                    continue;
+                }
+                if i > j {
+                    std::mem::swap(&mut i, &mut j);
+                }
+            } else if near && r.chance(20) {
+                std::mem::swap(&mut i, &mut j);
+            }
+            transitions.push([order[i], r.below(a) as u8, order[j]]);
+        }
+    }
+    transitions.sort();
+    transitions.dedup();
+    // the action formulas
+    let mut entries: Vec<[u8; 3]> = Vec::new();
+    for i in 0..z.entries {
+        let mut kind = r.pick(&[0u8, 1, 1, 2, 2, 2, 2, 3, 3, 4, 5, 5]);
+        if i == 0 && kind > 2 || kind == 2 && a == 0 {
+            kind = 1;
+        }
+        let mut below = |n: usize| r.below(n) as u8;
+        entries.push(match kind {
+            2 => [2, below(a), 0],
+            3 | 4 => [kind, below(i), below(i)],
+            5 => [5, below(i), 0],
+            _ => [kind, 0, 0],
+        });
+    }
+    // the rule
+    let mut nodes: Vec<[u8; 3]> = Vec::new();
+    let constants = r.pick(&[5, 20, 50]);
+    let (binding, modal) = (r.pick(&[10, 25, 25, 50, 70]), r.pick(&[15, 35, 60]));
+    let mut g = Rule {
+        r,
+        entries: entries.len(),
+        left: z.binders,
+        bound: 0,
+        guarded: z.guarded,
+        constants,
+        binding,
+        modal,
+        nodes: &mut nodes,
+    };
+    g.part(z.nodes, &mut Vec::new(), 0);
+    if !z.guarded && z.binders > 0 && z.nodes >= 4 && r.chance(20) {
+        nodes = knot(r, z.binders, z.nodes, entries.len());
+    }
+    Parts { states: s as u8, actions: a as u8, transitions, entries, nodes }
+}
+
+/// Binders one inside the other, and below them a comb of variables, bare or below a modal node, and a few constants.
+fn knot(r: &mut Rng, binders: usize, nodes: usize, entries: usize) -> Vec<[u8; 3]> {
+    let binders = binders.min(nodes - 1);
+    let mut out: Vec<[u8; 3]> = (0..binders as u8).map(|k| [7 + r.below(2) as u8, k, k + 1]).collect();
+    let both = r.below(3);
+    loop {
+        let tooth = if r.chance(15) { [r.below(2) as u8, 0, 0] } else { [6, r.below(binders) as u8, 0] };
+        let last = out.len() + 4 > nodes;
+        let at = out.len() as u8;
+        if !last {
+            out.push([2 + if both < 2 { both as u8 } else { r.below(2) as u8 }, at + 1, 0]);
+        }
+        if entries > 0 && !last && r.chance(40) {
+            let i = out.len() as u8;
+            out.push([4 + r.below(2) as u8, r.below(entries) as u8, i + 1]);
+        }
+        out.push(tooth);
+        if last {
+            return out;
+        }
+        out[at as usize][2] = out.len() as u8;
+    }
+}
+
+struct Rule<'a> {
+    r: &'a mut Rng,
+    entries: usize,
+    left: usize,
+    bound: u8,
+    guarded: bool,
+    /// Chances of a constant leaf, a binder, a modal node.
+    constants: usize,
+    binding: usize,
+    modal: usize,
+    nodes: &'a mut Vec<[u8; 3]>,
+}
+
+impl Rule<'_> {
+    /// A part of exactly `n` nodes (or fewer where no such part can be made) below the `open` binders.
+    fn part(&mut self, n: usize, open: &mut Vec<u8>, unguarded: u8) {
+        let at = self.nodes.len();
+        let unary = self.entries > 0;
+        if n >= 2 && self.left > 0 && (at == 0 && self.binding > 10 || n == 2 && !unary || self.r.chance(self.binding)) {
+            let x = self.bound;
+            self.bound += 1;
+            self.left -= 1;
+            self.nodes.push([7 + self.r.below(2) as u8, x, at as u8 + 1]);
+            open.push(x);
+            self.part(n - 1, open, unguarded | 1 << x);
+            open.pop();
+        } else if n >= 3 && (!unary || !self.r.chance(self.modal)) {
+            self.nodes.push([2 + self.r.below(2) as u8, at as u8 + 1, 0]);
+            let first = if self.r.chance(50) { self.r.range(1, n - 2) } else { self.r.range(1, (n - 2).min(3)) };
+            self.part(first, open, unguarded);
+            self.nodes[at][2] = self.nodes.len() as u8;
+            self.part(n - 1 - first, open, unguarded);
+        } else if n >= 2 && unary {
+            let x = self.r.below(self.entries) as u8;
+            self.nodes.push([4 + self.r.below(2) as u8, x, at as u8 + 1]);
+            self.part(n - 1, open, 0);
+        } else {
+            let ready: Vec<u8> =
+                open.iter().copied().filter(|v| !self.guarded || unguarded >> v & 1 == 0).collect();
+            if ready.is_empty() || self.r.chance(self.constants) {
+                self.nodes.push([self.r.below(2) as u8, 0, 0]);
+            } else {
+                self.nodes.push([6, self.r.pick(&ready), 0]);
+            }
+        }
+    }
+}
+
+fn odd(r: &mut Rng, now: u8) -> u8 {
+    match r.below(6) {
+        0 => now.wrapping_add(1),
+        1 => now.wrapping_sub(1),
+        2 => 0,
+        3 => 255,
+        4 => now ^ 1 << r.below(8),
+        _ => r.byte(),
+    }
+}
+
+/// The first node after the part that starts at node `i`.
+fn part_end(nodes: &[[u8; 3]], mut i: usize) -> usize {
+    let mut due = 1;
+    while due > 0 && i < nodes.len() {
+        due = match nodes[i][0] {
+            2 | 3 => due + 1,
+            4 | 5 | 7 | 8 => due,
+            _ => due - 1,
+        };
+        i += 1;
+    }
+    i
+}
+
+/// Damage inside the parts; the bodies still say what they hold.
+fn damage_parts(r: &mut Rng, p: &mut Parts) {
+    match r.below(26) {
+        22 | 23 => {
+            // a second child's number and something in the first child's part, or before it, or after it
+            let at: Vec<usize> = (0..p.nodes.len()).filter(|&i| p.nodes[i][0] == 2 || p.nodes[i][0] == 3).collect();
+            if !at.is_empty() {
+                let i = r.pick(&at);
+                let end = part_end(&p.nodes, (i + 1).min(p.nodes.len() - 1));
+                p.nodes[i][2] = if r.chance(50) { r.below(i + 2) as u8 } else { odd(r, p.nodes[i][2]) };
+                let j = if r.chance(75) && end > i + 1 { r.range(i + 1, end - 1) } else { r.below(p.nodes.len()) };
+                let f = r.below(3);
+                p.nodes[j][f] = odd(r, p.nodes[j][f]);
+            }
+        }
+        24 | 25 => {
+            // a variable of a binder whose part has ended, or not begun
+            let binders: Vec<usize> = (0..p.nodes.len()).filter(|&i| p.nodes[i][0] == 7 || p.nodes[i][0] == 8).collect();
+            let mut ways = Vec::new();
+            for &b in &binders {
+                let end = part_end(&p.nodes, b);
+                for i in (0..b).chain(end..p.nodes.len()) {
+                    if p.nodes[i][0] == 6 || p.nodes[i][0] < 2 {
+                        ways.push((i, p.nodes[b][1]));
+                    }
+                }
+            }
+            if !ways.is_empty() {
+                let (i, x) = r.pick(&ways);
+                p.nodes[i] = [6, x, 0];
+            }
+        }
+        0 => p.states = r.pick(&[0, 1, 128, 129, 255]),
+        1 => p.states = odd(r, p.states),
+        2 => p.actions = odd(r, p.actions),
+        3 | 4 if !p.transitions.is_empty() => {
+            let (i, f) = (r.below(p.transitions.len()), r.below(3));
+            p.transitions[i][f] = if r.chance(50) {
+                [p.states, p.actions, p.states][f]
+            } else {
+                odd(r, p.transitions[i][f])
+            };
+        }
+        5 if p.transitions.len() > 1 => {
+            let i = r.range(1, p.transitions.len() - 1);
+            if r.chance(50) {
+                p.transitions.swap(i, i - 1);
+            } else {
+                p.transitions[i] = p.transitions[i - 1];
+            }
+        }
+        6 => {
+            let t = r.pick(&[2047, 2048, 2049, 2050]);
+            while p.transitions.len() < t {
+                p.transitions.push([r.byte() & 127, r.byte(), r.byte() & 127]);
+            }
+            p.transitions.sort();
+        }
+        7..=9 if !p.entries.is_empty() => {
+            let (i, f) = (r.below(p.entries.len()), r.below(3));
+            p.entries[i][f] = match r.below(4) {
+                0 => i as u8,
+                1 if f == 0 => r.range(0, 7) as u8,
+                2 => p.actions,
+                _ => odd(r, p.entries[i][f]),
+            };
+        }
+        10 => {
+            let c = r.pick(&[31, 32, 33, 34]);
+            while p.entries.len() < c {
+                let k = r.below(2) as u8;
+                p.entries.push([k, 0, 0]);
+            }
+        }
+        11 => {
+            // 7 binders or a wrong binder number, in front
+            let k = r.range(1, 7);
+            for n in p.nodes.iter_mut() {
+                match n[0] {
+                    2 | 3 => {
+                        n[1] = n[1].wrapping_add(k as u8);
+                        n[2] = n[2].wrapping_add(k as u8);
+                    }
+                    4 | 5 => n[2] = n[2].wrapping_add(k as u8),
+                    6 => n[1] = n[1].wrapping_add(k as u8),
+                    7 | 8 => {
+                        n[1] = n[1].wrapping_add(k as u8);
+                        n[2] = n[2].wrapping_add(k as u8);
+                    }
+                    _ => {}
+                }
+            }
+            let front: Vec<[u8; 3]> = (0..k as u8).map(|i| [7 + (r.byte() & 1), i, i + 1]).collect();
+            p.nodes.splice(0..0, front);
+        }
+        12 | 13 => {
+            // a variable or binder number
+            let at: Vec<usize> = (0..p.nodes.len()).filter(|&i| p.nodes[i][0] >= 6).collect();
+            if !at.is_empty() {
+                let i = r.pick(&at);
+                p.nodes[i][1] = if r.chance(80) { r.below(7) as u8 } else { odd(r, p.nodes[i][1]) };
+            }
+        }
+        14 => {
+            // cut the rule
+            let k = r.below(p.nodes.len().max(1));
+            p.nodes.truncate(k);
+        }
+        15 => {
+            // nodes left over
+            for _ in 0..r.range(1, 4) {
+                let n = [r.below(10) as u8, r.below(2) as u8, r.below(2) as u8];
+                p.nodes.push(n);
+            }
+        }
+        16 => {
+            let c = r.pick(&[63, 64, 65, 66]);
+            while p.nodes.len() < c {
+                p.nodes.push([1, 0, 0]);
+            }
+        }
+        17 if !p.nodes.is_empty() => {
+            let i = r.below(p.nodes.len());
+            p.nodes[i][0] = r.below(10) as u8;
+        }
+        18 if p.nodes.len() > 1 => {
+            let i = r.range(1, p.nodes.len() - 1);
+            if r.chance(50) {
+                p.nodes.swap(i, i - 1);
+            } else {
+                p.nodes.remove(i);
+            }
+        }
+        _ if !p.nodes.is_empty() => {
+            let (i, f) = (r.below(p.nodes.len()), r.below(3));
+            p.nodes[i][f] = match r.below(5) {
+                0 => i as u8 + 1,
+                1 => i as u8 + 2,
+                2 if f == 1 => p.entries.len() as u8,
+                _ => odd(r, p.nodes[i][f]),
+            };
+        }
+        _ => {}
+    }
+}
+
+fn noise(r: &mut Rng, n: usize) -> Vec<u8> {
+    let small = r.chance(50);
+    (0..n).map(|_| if small { r.below(9) as u8 } else { r.byte() }).collect()
+}
+
+/// Damage to a body's own count and length.
+fn damage_body(r: &mut Rng, b: &mut Vec<u8>) {
+    match r.below(6) {
+        0 => b.clear(),
+        1 => {
+            let k = r.below(b.len() + 1);
+            b.truncate(k);
+        }
+        2 => {
+            let n = r.range(1, 4);
+            b.extend(noise(r, n));
+        }
+        3 if !b.is_empty() => {
+            let i = r.below(b.len().min(4));
+            b[i] = odd(r, b[i]);
+        }
+        4 => {
+            let n = r.below(40);
+            *b = noise(r, n);
+        }
+        _ if !b.is_empty() => {
+            let i = r.below(b.len());
+            b[i] = odd(r, b[i]);
+        }
+        _ => {}
+    }
+}
+
+/// Damage to the whole file.
+fn damage_sheet(r: &mut Rng, b: &mut Vec<u8>) {
+    match r.below(8) {
+        0 => {
+            let k = r.below(b.len() + 1);
+            b.truncate(k);
+        }
+        1 => {
+            let k = b.len() - r.range(1, 3).min(b.len());
+            b.truncate(k);
+        }
+        2 => {
+            let n = r.range(1, 5);
+            b.extend(noise(r, n));
+        }
+        3 => b.truncate(r.range(0, 18)),
+        4 => {
+            // the last body grows with its length
+            let n = r.range(1, 6);
+            b.extend(noise(r, n));
+            if b.len() >= 17 {
+                let l = (b[15] as u16 | (b[16] as u16) << 8).wrapping_add(n as u16);
+                b[15..17].copy_from_slice(&l.to_le_bytes());
+            }
+        }
+        _ => {
+            let n = b.len().min(if r.chance(80) { 17 } else { 65535 });
+            if n > 0 {
+                let i = r.below(n);
+                b[i] = odd(r, b[i]);
+            }
+        }
+    }
+}
+
+/// Three bodies, valid or damaged.
+fn bodies(r: &mut Rng) -> [Vec<u8>; 3] {
+    let z = any_size(r);
+    let mut p = valid(r, z);
+    match r.below(100) {
+        0..=54 => p.bodies(),
+        55..=79 => {
+            for _ in 0..r.pick(&[1, 1, 1, 2, 3]) {
+                damage_parts(r, &mut p);
+            }
+            p.bodies()
+        }
+        80..=95 => {
+            if r.chance(30) {
+                damage_parts(r, &mut p);
+            }
+            let mut b = p.bodies();
+            for _ in 0..r.pick(&[1, 1, 2]) {
+                let i = r.below(3);
+                damage_body(r, &mut b[i]);
+            }
+            b
+        }
+        _ => [0; 3].map(|_: i32| {
+            let n = r.below(30);
+            noise(r, n)
+        }),
+    }
+}
+
+/// A long chain of states, and a rule whose chain of cells is about as long as one can be: six binders one inside the
+/// other, and below them a comb that looks at each variable, the inner ones first.
+pub fn deep(r: &mut Rng, states: usize, nodes: usize) -> Parts {
+    let mut p = Parts { states: states as u8, actions: 1, transitions: vec![], entries: vec![[1, 0, 0]], nodes: vec![] };
+    for s in 1..states as u8 {
+        p.transitions.push([s - 1, 0, s]);
+    }
+    let least = r.chance(50);
+    for k in 0..6u8 {
+        let odd = r.chance(5);
+        p.nodes.push([7 + u8::from(least == odd), k, k + 1]);
+    }
+    // teeth: the six variables from inside out, and constants that decide nothing
+    let mut teeth: Vec<[u8; 3]> = (0..6u8).rev().map(|k| [6, k, 0]).collect();
+    while 6 + 2 * (teeth.len() + 1) + 2 <= nodes {
+        let at = if r.chance(70) { 0 } else { r.below(teeth.len()) };
+        teeth.insert(at, [u8::from(!least), 0, 0]);
+    }
+    for t in teeth {
+        let at = p.nodes.len() as u8;
+        p.nodes.push([2 + u8::from(!least), at + 1, at + 2]);
+        p.nodes.push(t);
+    }
+    let at = p.nodes.len() as u8;
+    p.nodes.push([4 + u8::from(!least), 0, at + 1]);
+    let v = if r.chance(70) { 5 } else { r.below(6) as u8 };
+    p.nodes.push([6, v, 0]);
+    p
+}
+
+/// A sheet; `whole` percent of them are left valid.
+fn sheet(r: &mut Rng, whole: usize) -> Vec<u8> {
+    if r.chance(1) {
+        let (s, n) = (r.pick(&[3, 10, 64, 128]), r.pick(&[20, 40, 64]));
+        return deep(r, s, n).sheet();
+    }
+    if r.chance(whole) {
+        let z = any_size(r);
+        return valid(r, z).sheet();
+    }
+    match r.below(100) {
+        0..=69 => {
+            let b = bodies(r);
+            assemble(&b[0], &b[1], &b[2])
+        }
+        70..=91 => {
+            let b = bodies(r);
+            let mut s = assemble(&b[0], &b[1], &b[2]);
+            for _ in 0..r.pick(&[1, 1, 2, 3]) {
+                damage_sheet(r, &mut s);
+            }
+            s
+        }
+        92 => {
+            // about the longest sheet, and just over
+            let z = Size { states: 128, actions: 255, transitions: 4000, entries: 32, nodes: 64, binders: 6, loops: r.chance(50), guarded: false };
+            let mut p = valid(r, z);
+            p.transitions.truncate(2048);
+            let mut b = p.bodies();
+            let k = r.pick(&[0, 0, 1, 3]);
+            b[2].extend(vec![0; k]);
+            assemble(&b[0], &b[1], &b[2])
+        }
+        93 => {
+            // long bodies that the contents own up to
+            let b = [0; 3].map(|_: i32| {
+                let n = r.below(8000);
+                noise(r, n)
+            });
+            assemble(&b[0], &b[1], &b[2])
+        }
+        94 => {
+            let n = if r.chance(20) { r.below(65536) } else { r.below(7000) };
+            noise(r, n)
+        }
+        _ => {
+            let n = r.below(90);
+            let mut b = noise(r, n);
+            if r.chance(60) && b.len() >= 2 {
+                b[0] = 1;
+                b[1] = 3;
+            }
+            b
+        }
+    }
+}
+
+fn buffer_len(r: &mut Rng, exact: usize) -> usize {
+    let n = match r.below(20) {
+        0..=10 => exact,
+        11..=15 => exact + r.range(1, 20),
+        16 => exact.saturating_sub(1),
+        17 => 0,
+        18 => r.below(exact + 1),
+        _ => exact.saturating_sub(r.range(1, 9)),
+    };
+    n.min(65535)
+}
+
+fn table_len(sheet: &[u8]) -> usize {
+    oracle::read(sheet).map_or(20, |s| s.parts.table_len())
+}
+
+/// Work of the plain iteration above which a reference request is not made.
+const WORK: u64 = 60_000;
+
+/// Request number `index` of a seed. The first two are the deepest chain of cells that we know how to make.
+pub fn request_at(seed: u64, index: u64, numbers: &[u8]) -> Request {
+    let mut r = Rng::new(seed, index);
+    if index < 2 && numbers.contains(&(4 + index as u8)) {
+        let sheet = deep(&mut r, 128, 64).sheet();
+        let len = table_len(&sheet);
+        return match index {
+            0 => Request::List { sheet, table_len: len as u16, fill: 7, states: vec![0, 127, 0] },
+            _ => Request::Query { sheet, state: 0, table: vec![0; len] },
+        };
+    }
+    request(&mut r, numbers)
+}
+
+fn request(r: &mut Rng, numbers: &[u8]) -> Request {
+    match r.pick(numbers) {
+        1 => Request::Read(sheet(r, 20)),
+        2 => Request::Guard(sheet(r, 70)),
+        3 => {
+            let s = sheet(r, 75);
+            if let Ok(ok) = oracle::read(&s) {
+                if ok.parts.states <= 64 && oracle::meaning(&ok.parts, WORK).is_none() {
+                    return request(r, &[3]);
+                }
+            }
+            Request::Reference(s)
+        }
+        4 => {
+            let sheet = sheet(r, 85);
+            let exact = table_len(&sheet);
+            let states = oracle::read(&sheet).map_or(4, |s| s.parts.states);
+            let q = match r.below(10) {
+                0 => 0,
+                1..=3 => 1,
+                4..=7 => r.range(1, 8),
+                _ => r.range(1, 30),
+            };
+            let mut list: Vec<u8> = (0..q)
+                .map(|_| match r.below(12) {
+                    0 => states as u8,
+                    1 => r.byte(),
+                    _ => r.below(states) as u8,
+                })
+                .collect();
+            if r.chance(20) {
+                list = (0..states as u8).collect();
+                if r.chance(50) {
+                    r.shuffle(&mut list);
+                }
+                if r.chance(30) {
+                    list.push(states as u8);
+                    list.insert(0, 255);
+                }
+            }
+            let fill = if r.chance(40) { r.pick(&[0, 1, 2, 3, 255]) } else { r.byte() };
+            Request::List { table_len: buffer_len(r, exact) as u16, sheet, fill, states: list }
+        }
+        5 => {
+            let sheet = sheet(r, 90);
+            let exact = table_len(&sheet);
+            let states = oracle::read(&sheet).map_or(4, |s| s.parts.states);
+            let full = r.pick(&[0, 3, 10, 30, 70, 100]);
+            let mut table: Vec<u8> =
+                (0..exact).map(|_| if r.chance(full) { 1 + r.below(2) as u8 } else { 0 }).collect();
+            if r.chance(25) {
+                // left by an earlier query, and perhaps not quite
+                table.fill(0);
+                let _ = oracle::query(&sheet, r.below(states) as u8, &mut table);
+                if r.chance(40) && exact > 0 {
+                    for _ in 0..r.range(1, 5) {
+                        let i = r.below(exact);
+                        table[i] = r.below(3) as u8;
+                    }
+                }
+            }
+            if r.chance(8) && exact > 0 {
+                let i = if r.chance(30) { exact - 1 } else { r.below(exact) };
+                table[i] = r.pick(&[3, 4, 255]);
+            }
+            let len = buffer_len(r, exact);
+            while table.len() < len {
+                table.push(r.byte());
+            }
+            table.truncate(len);
+            let state = match r.below(15) {
+                0 => states as u8,
+                1 => r.byte(),
+                _ => r.below(states) as u8,
+            };
+            Request::Query { sheet, state, table }
+        }
+        _ => {
+            let mut b = bodies(r);
+            if r.chance(1) {
+                // a body as long as a blob can be
+                let (i, n) = (r.below(3), 65535 - r.below(20));
+                b[i].resize(n, 0);
+            }
+            let exact = 17 + b.iter().map(Vec::len).sum::<usize>();
+            Request::Write { out_len: buffer_len(r, exact) as u16, bodies: b, fill: r.byte() }
+        }
+    }
+}
+
+/// Bytes that end a run: a request cut short, or an unknown byte with more after it.
+pub fn tail(r: &mut Rng, numbers: &[u8]) -> Vec<u8> {
+    let mut b = Vec::new();
+    match r.below(3) {
+        0 => {}
+        1 => {
+            request(r, numbers).bytes(&mut b);
+            let k = r.below(b.len());
+            b.truncate(k);
+        }
+        _ => {
+            b.push(r.pick(&[0, 200, 255]));
+            request(r, numbers).bytes(&mut b);
+        }
+    }
+    b
+}

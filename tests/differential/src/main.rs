@@ -1,0 +1,77 @@
+//! Differential tests and a benchmark of the trial driver, against an implementation of document 01 of its own.
+
+mod bench;
+mod compare;
+mod gen;
+mod oracle;
+mod protocol;
+
+use std::io::{Read, Write};
+
+const USAGE: &str = "usage:
+  differential vectors DIR                  stored requests of DIR (NAME.stdin, NAME.stdout) against the oracle
+  differential selfcheck [--seed N] [--count N]
+                                            the oracle's query against its own Table 1, on plans without loops
+  differential compare TRIALS [--seed N] [--count N] [--requests 1,2,3,4,5,6] [--no-shrink]
+                                            made requests, the trial driver against the oracle
+  differential bench TRIALS [--requests 1,2,3,4,5,6] [--out DIR]
+                                            instructions and time, the trial driver against the oracle
+  differential serve                        answers requests on standard input, as the trial driver does";
+
+fn option(args: &[String], name: &str) -> Option<String> {
+    args.iter().position(|a| a == name).and_then(|i| args.get(i + 1)).cloned()
+}
+
+fn number(args: &[String], name: &str) -> Option<u64> {
+    option(args, name).map(|v| v.parse().unwrap_or_else(|_| panic!("{name}: not a number: {v}")))
+}
+
+fn requests(args: &[String]) -> Vec<u8> {
+    option(args, "--requests")
+        .unwrap_or_else(|| "1,2,3,4,5,6".into())
+        .split(',')
+        .map(|v| v.parse().ok().filter(|n| (1..=6).contains(n)).unwrap_or_else(|| panic!("--requests: {v}")))
+        .collect()
+}
+
+fn serve() -> i32 {
+    let mut input = Vec::new();
+    if std::io::stdin().lock().read_to_end(&mut input).is_err() {
+        return 1;
+    }
+    let out = protocol::answers(&input);
+    std::io::stdout().lock().write_all(&out).map_or(1, |_| 0)
+}
+
+fn run(args: Vec<String>) -> i32 {
+    let operand = args.get(1).filter(|a| !a.starts_with("--")).cloned();
+    match (args.first().map(String::as_str), operand) {
+        (Some("serve"), None) => serve(),
+        (Some("vectors"), Some(dir)) => compare::vectors(&dir),
+        (Some("selfcheck"), None) => {
+            compare::selfcheck(number(&args, "--seed").unwrap_or_else(compare::clock), number(&args, "--count").unwrap_or(5000))
+        }
+        (Some("compare"), Some(trials)) => compare::compare(
+            &trials,
+            number(&args, "--seed").unwrap_or_else(compare::clock),
+            number(&args, "--count").unwrap_or(20_000),
+            &requests(&args),
+            !args.iter().any(|a| a == "--no-shrink"),
+        ),
+        (Some("bench"), Some(trials)) => {
+            bench::bench(&trials, &requests(&args), &option(&args, "--out").unwrap_or_else(|| "../../docs".into()))
+        }
+        _ => {
+            eprintln!("{USAGE}");
+            2
+        }
+    }
+}
+
+fn main() {
+    let args: Vec<String> = std::env::args().skip(1).collect();
+    // a chain of cells can be as long as the table, so the query needs a deep stack
+    let worker = std::thread::Builder::new().stack_size(256 << 20).spawn(move || run(args));
+    let code = worker.expect("a thread").join().unwrap_or(101);
+    std::process::exit(code);
+}

@@ -1,0 +1,188 @@
+//! The trial driver's protocol (TRIALS.md): requests from bytes, and the lines that answer each.
+
+use crate::oracle;
+use std::io::Write;
+
+#[derive(Clone, PartialEq, Eq, Debug)]
+pub enum Request {
+    Read(Vec<u8>),
+    Guard(Vec<u8>),
+    Reference(Vec<u8>),
+    List { sheet: Vec<u8>, table_len: u16, fill: u8, states: Vec<u8> },
+    Query { sheet: Vec<u8>, state: u8, table: Vec<u8> },
+    Write { bodies: [Vec<u8>; 3], out_len: u16, fill: u8 },
+}
+
+fn blob(out: &mut Vec<u8>, b: &[u8]) {
+    out.extend((b.len() as u16).to_le_bytes());
+    out.extend(b);
+}
+
+impl Request {
+    pub fn number(&self) -> u8 {
+        match self {
+            Request::Read(_) => 1,
+            Request::Guard(_) => 2,
+            Request::Reference(_) => 3,
+            Request::List { .. } => 4,
+            Request::Query { .. } => 5,
+            Request::Write { .. } => 6,
+        }
+    }
+
+    pub fn bytes(&self, out: &mut Vec<u8>) {
+        out.push(self.number());
+        match self {
+            Request::Read(s) | Request::Guard(s) | Request::Reference(s) => blob(out, s),
+            Request::List { sheet, table_len, fill, states } => {
+                blob(out, sheet);
+                out.extend(table_len.to_le_bytes());
+                out.push(*fill);
+                blob(out, states);
+            }
+            Request::Query { sheet, state, table } => {
+                blob(out, sheet);
+                out.push(*state);
+                blob(out, table);
+            }
+            Request::Write { bodies, out_len, fill } => {
+                bodies.iter().for_each(|b| blob(out, b));
+                out.extend(out_len.to_le_bytes());
+                out.push(*fill);
+            }
+        }
+    }
+}
+
+/// A request as it lies in the input, without a copy.
+pub enum View<'a> {
+    Read(&'a [u8]),
+    Guard(&'a [u8]),
+    Reference(&'a [u8]),
+    List { sheet: &'a [u8], table_len: usize, fill: u8, states: &'a [u8] },
+    Query { sheet: &'a [u8], state: u8, table: &'a [u8] },
+    Write { bodies: [&'a [u8]; 3], out_len: usize, fill: u8 },
+}
+
+pub struct Input<'a> {
+    pub rest: &'a [u8],
+}
+
+impl<'a> Input<'a> {
+    fn take(&mut self, n: usize) -> Option<&'a [u8]> {
+        if self.rest.len() < n {
+            return None;
+        }
+        let (a, b) = self.rest.split_at(n);
+        self.rest = b;
+        Some(a)
+    }
+    fn byte(&mut self) -> Option<u8> {
+        self.take(1).map(|b| b[0])
+    }
+    fn word(&mut self) -> Option<usize> {
+        self.take(2).map(|b| b[0] as usize + 256 * b[1] as usize)
+    }
+    fn blob(&mut self) -> Option<&'a [u8]> {
+        let n = self.word()?;
+        self.take(n)
+    }
+    /// The next request; None at the end, on a request cut short and on an unknown byte.
+    pub fn request(&mut self) -> Option<View<'a>> {
+        Some(match self.byte()? {
+            1 => View::Read(self.blob()?),
+            2 => View::Guard(self.blob()?),
+            3 => View::Reference(self.blob()?),
+            4 => View::List { sheet: self.blob()?, table_len: self.word()?, fill: self.byte()?, states: self.blob()? },
+            5 => View::Query { sheet: self.blob()?, state: self.byte()?, table: self.blob()? },
+            6 => View::Write {
+                bodies: [self.blob()?, self.blob()?, self.blob()?],
+                out_len: self.word()?,
+                fill: self.byte()?,
+            },
+            _ => return None,
+        })
+    }
+}
+
+fn hex(name: &str, b: &[u8], out: &mut Vec<u8>) {
+    const DIGITS: &[u8; 16] = b"0123456789abcdef";
+    out.extend(name.as_bytes());
+    out.push(b' ');
+    out.reserve(2 * b.len() + 1);
+    for &v in b {
+        out.extend([DIGITS[v as usize >> 4], DIGITS[v as usize & 15]]);
+    }
+    out.push(b'\n');
+}
+
+fn query(sheet: &[u8], state: u8, table: &mut [u8], out: &mut Vec<u8>) {
+    let ((n, p), v, k) = match oracle::query(sheet, state, table) {
+        Ok((v, k)) => ((0, 0), v, k),
+        Err(r) => (r, false, 0),
+    };
+    let _ = writeln!(out, "query {n} {p} {v} {k}");
+}
+
+pub fn answer(request: &View, out: &mut Vec<u8>) {
+    let _ = match request {
+        View::Read(s) => {
+            let ((n, p), b) = match oracle::read(s) {
+                Ok(sheet) => ((0, 0), sheet.bodies),
+                Err(r) => (r, [(0, 0); 3]),
+            };
+            writeln!(out, "read {n} {p} {} {} {} {} {} {}", b[0].0, b[0].1, b[1].0, b[1].1, b[2].0, b[2].1)
+        }
+        View::Guard(s) => match oracle::guard(s) {
+            Ok(g) => writeln!(out, "guard 0 0 {g}"),
+            Err((n, p)) => writeln!(out, "guard {n} {p} false"),
+        },
+        View::Reference(s) => match oracle::reference(s) {
+            Ok(w) => writeln!(out, "reference 0 0 {w}"),
+            Err((n, p)) => writeln!(out, "reference {n} {p} 0"),
+        },
+        View::List { sheet, table_len, fill, states } => {
+            let mut table = vec![*fill; *table_len];
+            let (n, p) = oracle::clear(sheet, &mut table).err().unwrap_or((0, 0));
+            let _ = writeln!(out, "clear {n} {p}");
+            for &s in *states {
+                query(sheet, s, &mut table, out);
+            }
+            hex("table", &table, out);
+            Ok(())
+        }
+        View::Query { sheet, state, table } => {
+            let mut table = table.to_vec();
+            query(sheet, *state, &mut table, out);
+            hex("table", &table, out);
+            Ok(())
+        }
+        View::Write { bodies, out_len, fill } => {
+            let mut buffer = vec![*fill; *out_len];
+            let ((n, p), len) = match oracle::write(bodies[0], bodies[1], bodies[2], &mut buffer) {
+                Ok(len) => ((0, 0), len),
+                Err(r) => (r, 0),
+            };
+            let _ = writeln!(out, "write {n} {p} {len}");
+            hex("out", &buffer, out);
+            Ok(())
+        }
+    };
+}
+
+/// Every answer to an input.
+pub fn answers(input: &[u8]) -> Vec<u8> {
+    let mut out = Vec::new();
+    let mut input = Input { rest: input };
+    while let Some(r) = input.request() {
+        answer(&r, &mut out);
+    }
+    out
+}
+
+/// The answer to one request.
+pub fn expected(request: &Request) -> Vec<u8> {
+    let mut b = Vec::new();
+    request.bytes(&mut b);
+    answers(&b)
+}
