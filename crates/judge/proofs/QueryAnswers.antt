@@ -1,5 +1,5 @@
 -- What the code of a query shows: each answer is the one that the checks give.
-use Prim.Native.Nat.{ℕ, _<_, _≤_}
+use Prim.Native.Nat.{ℕ, _+_, _-_, _<_, _≤_}
 use mathlib.Core.Path.{_≡_, refl, sym, ap, _∙_}
 use mathlib.Core.Bool.{Bool, true, false, not}
 use mathlib.Core.List.{List}
@@ -8,7 +8,8 @@ use native.Mathlib.Decide.{decLt}
 use lib.ListN.{length}
 use lib.Dec.{eqb, ltb, leb}
 use borrow.Author.Tests.{lt-ltb, le-ltb, le-leb, lt-leb, eq-eqb, ne-eqb}
-use Rattle.sheet.specs.Bytes.{lowestFrom, lowest}
+use Rattle.sheet.specs.Bytes.{pick, lowestFrom, lowest}
+use Rattle.sheet.proofs.Lowest.{search-start, search-here, search-next, search-end}
 use Rattle.sheet.specs.Contents.{planBody, actionsBody, ruleBody}
 use Rattle.sheet.specs.Plan.{stateCount}
 use Rattle.sheet.specs.Rules.{BodiesKept}
@@ -28,13 +29,51 @@ use Rattle.judge.proofs.Acyclic.{loopless-settled}
 use Rattle.judge.proofs.DecideSteps.{bodies}
 
 -- a byte over 2 below size, or none
-pub byte-over : (size : ℕ) (t : List ℕ) (i : ℕ) → i ≡ lowest (λ j. ltb 2 (byteAt t j)) size → i < size → false ≡ bytesRight size t
+byte-over : (size : ℕ) (t : List ℕ) (i : ℕ) → i ≡ lowest (λ j. ltb 2 (byteAt t j)) size → i < size → false ≡ bytesRight size t
 unfolding bytesRight
 byte-over size t i e h = sym (ne-eqb (lowest (λ j. ltb 2 (byteAt t j)) size) size (λ q. omega arith))
 
-pub bytes-fine : (size : ℕ) (t : List ℕ) (i : ℕ) → i ≡ lowest (λ j. ltb 2 (byteAt t j)) size → size ≤ i → i ≤ size → true ≡ bytesRight size t
+bytes-fine : (size : ℕ) (t : List ℕ) (i : ℕ) → i ≡ lowest (λ j. ltb 2 (byteAt t j)) size → size ≤ i → i ≤ size → true ≡ bytesRight size t
 unfolding bytesRight
 bytes-fine size t i e h l = sym (eq-eqb (lowest (λ j. ltb 2 (byteAt t j)) size) size (omega arith))
+
+-- the larger of two numbers is over 2 exactly when one of them is
+larger-fine : (a b : ℕ) → a ≤ 2 → b ≤ 2 → pick (ltb a b) b a ≤ 2
+larger-fine a b ha hb = elim (decLt a b) [
+  | yes l ↦ rw (lt-ltb a b l) hb
+  | no l ↦ rw (le-ltb a b (omega arith)) ha
+]
+
+larger-left : (a b : ℕ) → 2 < a → 2 < pick (ltb a b) b a
+larger-left a b h = elim (decLt a b) [
+  | yes l ↦ rw (lt-ltb a b l) (omega arith)
+  | no l ↦ rw (le-ltb a b (omega arith)) h
+]
+
+larger-right : (a b : ℕ) → 2 < b → 2 < pick (ltb a b) b a
+larger-right a b h = elim (decLt a b) [
+  | yes l ↦ rw (lt-ltb a b l) h
+  | no l ↦ rw (le-ltb a b (omega arith)) (omega arith)
+]
+
+-- what the largest of the bytes before i tells: none of them is over 2, or some byte is
+pub data Largest (size : ℕ) (t : List ℕ) (i most : ℕ) : Type 0 where
+  fine : most ≤ 2 → lowestFrom (λ j. ltb 2 (byteAt t j)) (size - i) i ≡ lowest (λ j. ltb 2 (byteAt t j)) size → Largest size t i most
+  over : 2 < most → false ≡ bytesRight size t → Largest size t i most
+
+pub largest-next : (size : ℕ) (t : List ℕ) (i most : ℕ) → i < size → Largest size t i most → Largest size t (i + 1) (pick (ltb most (byteAt t i)) (byteAt t i) most)
+largest-next size t i most h (fine l q) = elim (decLt 2 (byteAt t i)) [
+  | yes g ↦ over (larger-right most (byteAt t i) g) (byte-over size t i (search-here (λ j. ltb 2 (byteAt t j)) size i _ h (lt-ltb 2 (byteAt t i) g) q) h)
+  | no g ↦ fine (larger-fine most (byteAt t i) l (omega arith)) (search-next (λ j. ltb 2 (byteAt t j)) size i _ h (le-ltb 2 (byteAt t i) (omega arith)) q)
+]
+largest-next size t i most h (over l q) = over (larger-left most (byteAt t i) l) q
+
+pub largest-start : (size : ℕ) (t : List ℕ) → Largest size t 0 0
+largest-start size t = fine (omega arith) (search-start (λ j. ltb 2 (byteAt t j)) size size refl)
+
+pub largest-end : (size : ℕ) (t : List ℕ) (i most : ℕ) → size ≤ i → i ≤ size → Largest size t i most → leb most 2 ≡ bytesRight size t
+largest-end size t i most h g (fine l q) = le-leb most 2 l ∙ bytes-fine size t i (search-end (λ j. ltb 2 (byteAt t j)) size i _ h q) h g
+largest-end size t i most h g (over l q) = lt-leb most 2 l ∙ q
 
 module _ (s : List ℕ) (state : ℕ) (t : List ℕ) where
   -- the answer, what it reports and what the table then holds

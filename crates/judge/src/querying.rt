@@ -15,24 +15,34 @@ use sheet::reader::plan_body;
 ghost use mathlib.Core.Path.{_≡_};
 ghost use Prim.Native.Nat.{_≤_};
 ghost use lib.ListN.{length};
+ghost use lib.Dec.{ltb};
+ghost use Rattle.sheet.specs.Bytes.{pick};
 ghost use Rattle.sheet.specs.Reading.{sheetCheck};
 ghost use Rattle.sheet.specs.declared.Check.the-variants.{Passed};
 ghost use Rattle.judge.specs.Deciding.{visitsIn};
 ghost use Rattle.judge.specs.Querying.{bytesRight, queriedOf, tableQueried, reportedQuery, queryReportOf};
 
-// Whether the first size bytes are 0, 1 or 2.
+fn larger(a: u8, b: u8) -> u8
+    ensures { λ r. ⌜ r ≡ pick (ltb a b) b a ⌝ }
+{
+    if a < b {
+        return b;
+    }
+    a
+}
+
+// Whether the first size bytes are 0, 1 or 2. The largest is sought, with no way out before the end, so that many bytes are taken at a step.
 fn bytes_right(table: &[u8], size: usize) -> bool
     requires { ⌜ size ≤ length (now table) ⌝ }
     ensures { λ b. ⌜ b ≡ bytesRight size (now (table .entry)) ⌝ }
 {
+    let mut most: u8 = 0;
     let mut i = 0;
     while i < size {
-        if 2 < table[i] {
-            return false;
-        }
+        most = larger(most, table[i]);
         i += 1;
     }
-    true
+    most <= 2
 }
 
 fn visits_of(w: u32) -> usize
