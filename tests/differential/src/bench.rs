@@ -314,9 +314,7 @@ fn page(rows: &[Row], missing: &[&str], start: &[f64], start_time: &[f64], each:
         );
     }
     o += "\nEach query of a list reads the sheet again and looks at its whole table for a byte over 2 (refusal 21): S x N x (B + 1)\n\
-          bytes, 57,344 at the largest size, so that a list grows faster than the square of the sheet in the driver. rustc turns\n\
-          that look into steps of 16 bytes, which is most of the growth of the ratio: with a look byte by byte in Rust as well,\n\
-          the list's ratio was 1.46 at 32 states and 1.18 at 128 (measured once, on 15 November 2026).\n";
+          bytes, 57,344 at the largest size, which both programs do many bytes at a step. So a list grows faster than its sheet.\n";
     o
 }
 
