@@ -23,6 +23,7 @@ use Rattle.sheet.specs.declared.Read.the-variants.{Accepted}
 use Rattle.sheet.proofs.PlanAccepted.{plan-iff}
 use Rattle.sheet.proofs.ActionsAccepted.{actions-iff}
 use Rattle.sheet.proofs.RuleAccepted.{rule-iff}
+use Rattle.sheet.proofs.SheetSteps.{entry-is}
 use Rattle.sheet.proofs.Checks.{both, both₅, all, passed-then, then-passed, passed-require, require-passed}
 
 -- ---- three bodies
@@ -75,12 +76,6 @@ module _ (s : List ℕ) where
 
   -- ---- the table of contents
 
-  entry : (at kind offset : ℕ) → entryIs s at kind offset ≡ true → (byte s at ≡ kind) × (word s (at + 1) ≡ offset)
-  unfolding entryIs
-  entry at kind offset q =
-      let b = both (eqb (byte s at) kind) (eqb (word s (at + 1)) offset) q in
-      (eqb-true (byte s at) kind (b .0), eqb-true (word s (at + 1)) offset (b .1))
-
   is-entry : (at kind offset : ℕ) → byte s at ≡ kind → word s (at + 1) ≡ offset → entryIs s at kind offset ≡ true
   unfolding entryIs
   is-entry at kind offset p q = all (eqb (byte s at) kind) (eqb (word s (at + 1)) offset) (eq-eqb (byte s at) kind p) (eq-eqb (word s (at + 1)) offset q)
@@ -109,9 +104,9 @@ module _ (s : List ℕ) where
       let h = both (eqb (byte s 0) 1) (eqb (byte s 1) 3) (passed-require (headingRight s) Heading (d .0)) in
       let t = both₅ (entryIs s 2 1 headLength) (entryIs s 7 2 (actionsOffset s)) (entryIs s 12 3 (ruleOffset s)) (eqb (length s) (ruleOffset s + ruleLength s)) (leb (length s) longest)
       (passed-require (contentsRight s) Contents (e .0)) in
-      let p = entry 2 1 headLength (t .0) in
-      let a = entry 7 2 (actionsOffset s) (t .1) in
-      let r = entry 12 3 (ruleOffset s) (t .2) in
+      let p = entry-is s 2 1 headLength (t .0) in
+      let a = entry-is s 7 2 (actionsOffset s) (t .1) in
+      let r = entry-is s 12 3 (ruleOffset s) (t .2) in
       record {
         headed = leb-true headLength (length s) (passed-require (leb headLength (length s)) TooShort (c .0));
         edition = eqb-true (byte s 0) 1 (h .0);

@@ -5,10 +5,10 @@ use mathlib.Core.Bool.{Bool, true, false}
 use mathlib.Core.List.{List}
 use lib.ListN.{length}
 use lib.Dec.{eqb, leb}
-use borrow.Author.Tests.{eq-eqb, ne-eqb, lt-leb, le-leb}
-use Rattle.sheet.specs.Bytes.{byte, word}
+use borrow.Author.Tests.{eq-eqb, ne-eqb, lt-leb, le-leb, eqb-true}
+use Rattle.sheet.specs.Bytes.{byte, word, part}
 use Rattle.sheet.specs.Refusals.{reportedCheck}
-use Rattle.sheet.specs.Contents.{headingRight, headLength, longest, entryIs, actionsOffset, ruleOffset, ruleLength, contentsRight, planBody, actionsBody, ruleBody}
+use Rattle.sheet.specs.Contents.{headingRight, headLength, longest, entryIs, planLength, actionsLength, ruleLength, actionsOffset, ruleOffset, bodyAt, contentsRight, planBody, actionsBody, ruleBody}
 use Rattle.sheet.specs.Plan.{actionCount}
 use Rattle.sheet.specs.Actions.{entryCount}
 use Rattle.sheet.specs.Reading.{planCheck, actionsCheck, ruleCheck, bodiesCheck, sheetCheck, readOf, bodiesOf, answerRead, reported, report, readingOf}
@@ -18,6 +18,7 @@ use Rattle.sheet.specs.declared.Check.{Check}
 use Rattle.sheet.specs.declared.Check.the-variants.{Passed, Failed}
 use Rattle.sheet.specs.declared.Read.{Read}
 use Rattle.sheet.specs.declared.Read.the-variants.{Accepted, Refused}
+use Rattle.sheet.proofs.Checks.{both, both₅}
 
 module _ (s : List ℕ) where
   pub heading-edition : byte s 0 ≡ 1 → headingRight s ≡ eqb (byte s 1) 3
@@ -36,6 +37,12 @@ module _ (s : List ℕ) where
     pub entry-other : (byte s at ≡ kind → ⊥) → entryIs s at kind offset ≡ false
     unfolding entryIs
     entry-other e = rw (ne-eqb (byte s at) kind e)
+
+  pub entry-is : (at kind offset : ℕ) → entryIs s at kind offset ≡ true → (byte s at ≡ kind) × (word s (at + 1) ≡ offset)
+  unfolding entryIs
+  entry-is at kind offset q =
+      let b = both (eqb (byte s at) kind) (eqb (word s (at + 1)) offset) q in
+      (eqb-true (byte s at) kind (b .0), eqb-true (word s (at + 1)) offset (b .1))
 
   pub contents-first : entryIs s 2 1 headLength ≡ false → contentsRight s ≡ false
   unfolding contentsRight
@@ -77,6 +84,16 @@ module _ (s : List ℕ) where
     pub sheet-bodies : headingRight s ≡ true → contentsRight s ≡ true → bodiesCheck (planBody s) (actionsBody s) (ruleBody s) ≡ sheetCheck s
     unfolding sheetCheck
     sheet-bodies e f = rw (le-leb headLength (length s) long, e, f)
+
+    -- the bodies that the entries tell of are the three that follow one another
+    pub sheet-in-order : headingRight s ≡ true → contentsRight s ≡ true → bodiesCheck (bodyAt s 2) (bodyAt s 7) (bodyAt s 12) ≡ sheetCheck s
+    unfolding contentsRight
+    sheet-in-order e f =
+        let t = both₅ (entryIs s 2 1 headLength) (entryIs s 7 2 (actionsOffset s)) (entryIs s 12 3 (ruleOffset s)) (eqb (length s) (ruleOffset s + ruleLength s)) (leb (length s) longest) f in
+        let plan = entry-is 2 1 headLength (t .0) .1 in
+        let actions = entry-is 7 2 (actionsOffset s) (t .1) .1 in
+        let rule = entry-is 12 3 (ruleOffset s) (t .2) .1 in
+        (λ i. bodiesCheck (part s (plan i) (planLength s)) (part s (actions i) (actionsLength s)) (part s (rule i) (ruleLength s))) ∙ sheet-bodies e f
 
   pub read-accepted : sheetCheck s ≡ Passed → Accepted (bodiesOf s) ≡ readOf s
   unfolding readOf

@@ -39,6 +39,10 @@ ruleOffset s = actionsOffset s + actionsLength s
 unfoldable pub entryIs : List ℕ → ℕ → ℕ → ℕ → Bool
 entryIs s at kind offset = eqb (byte s at) kind && eqb (word s (at + 1)) offset
 
+-- the body that the entry at a byte tells of: "offset (16 bits), length (16 bits)"
+abbrev pub bodyAt : List ℕ → ℕ → List ℕ
+bodyAt s at = part s (word s (at + 1)) (word s (at + 3))
+
 -- "Their kinds are 1, 2, 3 in that order", the bodies follow one another, "and the file ends with the last"; no file is longer than the longest sheet
 unfoldable pub contentsRight : List ℕ → Bool
 contentsRight s =

@@ -4,6 +4,7 @@ ghost use Rattle.sheet.specs.Refusals.{numberOf, placeOf};
 
 pub mod actions;
 mod bytes;
+mod contents;
 pub mod plan;
 pub mod reader;
 pub mod rule;

@@ -8,6 +8,7 @@ use crate::actions::check_actions;
 use crate::bytes::byte_at;
 use crate::bytes::part_of;
 use crate::bytes::word_at;
+use crate::contents::check_in_order;
 use crate::plan::check_plan;
 use crate::rule::check_rule;
 ghost use mathlib.Core.Path.{_≡_};
@@ -109,7 +110,7 @@ pub fn check(sheet: &[u8]) -> Check
     if !contents_right(sheet) {
         return Check::Failed(Refusal::Contents);
     }
-    check_bodies(plan_body(sheet), actions_body(sheet), rule_body(sheet))
+    check_in_order(sheet)
 }
 
 fn bodies_of(sheet: &[u8]) -> Bodies
