@@ -15,7 +15,7 @@ use Rattle.judge.proofs.Settled.{settled-no-loop, settled-exactly}
 use Rattle.judge.proofs.Successors.{successor-below}
 
 module _ (p : List ℕ) (kept : PlanKept p) where
-  way-below : {s t : ℕ} → Way (successors p) s t → t < stateCount p
+  pub way-below : {s t : ℕ} → Way (successors p) s t → t < stateCount p
   way-below (last {s = s} {t = t} m) = successor-below kept s t m
   way-below (first m w) = way-below w
 

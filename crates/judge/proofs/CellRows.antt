@@ -14,7 +14,7 @@ use Rattle.calculus.specs.Decode.{planOf, nodeSort}
 use Rattle.calculus.proofs.Nodes.{node-part}
 use Rattle.judge.specs.Rows.{Row, Connective, disjunction, conjunction}
 use Rattle.judge.specs.Tables.{constant}
-use Rattle.judge.specs.Cells.{Cell, cell, only, following, opened, outer, bottomOf, rowOf, rows}
+use Rattle.judge.specs.Cells.{Cell, cell, only, following, opened, outer, constantOf, rowOf, rows}
 
 abbrev pub row : Connective → List Cell → Row Cell
 row k l = record { connective = k; entries = l }
@@ -51,7 +51,7 @@ module _ (p a : List ℕ) {entries : ℕ} {r : List ℕ} (kept : RuleKept entrie
   pub every-row : nodeKind r n ≡ 5 → rows p a r (cell m n s) ≡ row conjunction (following (actionCount p) a (nodeX r n) (suc n) s (planOf p .transitions))
   every-row q = of-kind 5 q ∙ ap (λ (i : ℕ). row conjunction (following (actionCount p) a (nodeX r n) i s (planOf p .transitions))) (under (omega arith) (omega arith))
 
-  pub variable-row : nodeKind r n ≡ 6 → rows p a r (cell m n s) ≡ pick (outer (nodeX r n) m) (only (cell 0 (binderNode r (nodeX r n)) s)) (bottomOf r (binderNode r (nodeX r n)))
+  pub variable-row : nodeKind r n ≡ 6 → rows p a r (cell m n s) ≡ pick (outer (nodeX r n) m) (only (cell 0 (binderNode r (nodeX r n)) s)) (constantOf r (binderNode r (nodeX r n)))
   variable-row q = of-kind 6 q
 
   pub binder-row : (nodeKind r n ≡ 7) ⊎ (nodeKind r n ≡ 8) → rows p a r (cell m n s) ≡ only (cell (opened (nodeX r n) m) (suc n) s)

@@ -4,7 +4,7 @@ use mathlib.Core.List.{List}
 use mathlib.Core.Path.{_≡_, refl}
 use Prim.Native.Nat.{ℕ, _<_}
 use Rattle.judge.specs.Rows.{Row, joined, Each, Falling}
-use Rattle.judge.specs.Tables.{byteAt, empty, known, byte, constant, changed}
+use Rattle.judge.specs.Tables.{byteAt, empty, filled, known, byte, constant, changed}
 
 pub known-byte : (b : Bool) → known (byte b) ≡ b
 known-byte true = refl
@@ -13,6 +13,10 @@ known-byte false = refl
 pub empty-byte : (b : Bool) → empty (byte b) ≡ false
 empty-byte true = refl
 empty-byte false = refl
+
+pub filled-byte : (b : Bool) → filled (byte b) ≡ true
+filled-byte true = refl
+filled-byte false = refl
 
 -- a constant row has its constant for value, whatever the cells' values
 pub joined-constant : {C : Type 0} (b : Bool) (v : C → Bool) → joined (constant {C = C} b .connective) v (constant {C = C} b .entries) ≡ b

@@ -13,6 +13,7 @@ use Rattle.sheet.specs.declared.Refusal.the-variants.{TableShort}
 use Rattle.sheet.specs.declared.Check.{Check}
 use Rattle.sheet.specs.declared.Check.the-variants.{Passed, Failed}
 use Rattle.judge.specs.Clearing.{sizeOf, clearCheck, answerCleared, clearedOf, emptied, tableCleared, reportedClear, reportClear, clearReportOf}
+use Rattle.judge.specs.Delivered.{Clears}
 use Rattle.judge.specs.declared.Cleared.{Cleared}
 use Rattle.judge.specs.declared.Cleared.the-variants.{Done, Refused}
 
@@ -23,9 +24,9 @@ small-product a b c ha hb hc =
     (first, mul-le-mul {n₂ = 65536} {m₂ = 256} first hc)
 
 module _ (s t : List ℕ) where
-  -- the answer, what it reports and what the table then holds
+  -- the clauses of the contract
   abbrev Answers : Cleared → List ℕ → Type 0
-  Answers r now = (r ≡ clearedOf s t) × ((reportedClear r ≡ clearReportOf s t) × (now ≡ tableCleared s t))
+  Answers = Clears s t
 
   answers : (r : Cleared) (now : List ℕ) → r ≡ clearedOf s t → now ≡ tableCleared s t → Answers r now
   unfolding clearedOf clearReportOf

@@ -15,7 +15,7 @@ use Rattle.judge.specs.Rows.{Connective, disjunction, conjunction, Row, 
 use Rattle.judge.specs.Tables.{Result, out, constant}
 use Rattle.judge.specs.Tables.{byte as valueByte}
 use Rattle.judge.specs.Solver.{walk}
-use Rattle.judge.specs.Cells.{Cell, cell, only, opened, outer, bottomOf, rows, indexOf}
+use Rattle.judge.specs.Cells.{Cell, cell, only, opened, outer, constantOf, rows, indexOf}
 use Rattle.judge.specs.Deciding.{Decidable, resultAt, verdictIn, visitsIn, Known, Joined, Closed, Decided, connectiveOf, Followed}
 use Rattle.judge.proofs.QuerySteps.{walk-none, walk-only, walk-both}
 use Rattle.judge.proofs.Solver.{walk-decided}

@@ -22,7 +22,7 @@ use Rattle.judge.specs.Rows.{Connective, disjunction, conjunction, Row, 
 use Rattle.judge.specs.Tables.{Result, out, constant}
 use Rattle.judge.specs.Tables.{byte as valueByte}
 use Rattle.judge.specs.Solver.{walk}
-use Rattle.judge.specs.Cells.{Cell, cell, only, following, opened, outer, bottomOf, rows, indexOf, marks}
+use Rattle.judge.specs.Cells.{Cell, cell, only, following, opened, outer, constantOf, rows, indexOf, marks}
 use Rattle.judge.specs.Clearing.{sizeOf}
 use Rattle.judge.specs.Deciding.{Prepared, Decidable, Following, NodeAt, resultAt, verdictIn, visitsIn, Known, Joined, Closed, Decided, connectiveOf, Followed}
 use Rattle.judge.proofs.BindersAbove.{bound-above, above-below, above-counted}
@@ -92,7 +92,7 @@ module _ (p a r : List ℕ) (m n st : ℕ) where
   unfolding rows
   row-outer e f = rw (e, f)
 
-  pub row-constant : nodeKind r n ≡ 6 → outer (nodeX r n) m ≡ false → rows p a r (cell m n st) ≡ bottomOf r (binderNode r (nodeX r n))
+  pub row-constant : nodeKind r n ≡ 6 → outer (nodeX r n) m ≡ false → rows p a r (cell m n st) ≡ constantOf r (binderNode r (nodeX r n))
   unfolding rows
   row-constant e f = rw (e, f)
 

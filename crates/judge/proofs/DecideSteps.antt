@@ -25,9 +25,9 @@ use Rattle.judge.specs.Tables.{byteAt, empty, known, Result, out, visits
 use Rattle.judge.specs.Tables.{byte as valueByte}
 use Rattle.judge.specs.Solver.{closing, walk}
 use Rattle.judge.specs.Loops.{settled}
-use Rattle.judge.specs.Cells.{Cell, cell, only, following, opened, outer, bottomOf, rows, enough, marks, cellCount, indexOf, cellAt, successors}
+use Rattle.judge.specs.Cells.{Cell, cell, only, following, opened, outer, constantOf, rows, enough, marks, cellCount, indexOf, cellAt, successors, MarkRight, CellOf}
 use Rattle.judge.specs.Clearing.{sizeOf}
-use Rattle.judge.specs.Deciding.{Prepared, MarkRight, Decidable, Following, resultAt, verdictIn, visitsIn, Known, Joined, Closed, Decided, connectiveOf, walkAt, Followed}
+use Rattle.judge.specs.Deciding.{Prepared, Decidable, Following, resultAt, verdictIn, visitsIn, Known, Joined, Closed, Decided, connectiveOf, walkAt, Followed}
 use Rattle.judge.proofs.BindersAbove.{above-below, below-above, above-counted, below-tested, tested-below}
 use Rattle.judge.proofs.ValidCells.{Marked, Valid, valid-entries}
 use Rattle.judge.proofs.Ranks.{rank, falling}
@@ -82,6 +82,13 @@ module _ (s : List ℕ) (accepted : sheetCheck s ≡ Passed) where
     state-settled = d .state-settled;
     marked = marked (c .mark) (c .node) (d .node-below) (d .mark-right);
   }
+
+  -- a cell of the sheet, where its state is settled
+  pub counted : (c : Cell) → CellOf (planBody s) (ruleBody s) c → settled (successors (planBody s)) (stateCount (planBody s)) (c .state) ≡ true → Valid (planBody s) (actionsBody s) (ruleBody s) c
+  counted c d e = record { node-below = d .node-below; state-below = d .state-below; state-settled = e; marked = marked (c .mark) (c .node) (d .node-below) (d .mark-right) }
+
+  pub uncounted : (c : Cell) → Valid (planBody s) (actionsBody s) (ruleBody s) c → CellOf (planBody s) (ruleBody s) c
+  uncounted c v = record { node-below = v .node-below; state-below = v .state-below; mark-right = mark-right (c .mark) (c .node) (v .node-below) (v .marked) }
 
   -- a valid cell can be decided on any table that is as long
   pub decidable : (index t : List ℕ) (c : Cell) → Prepared s index → sizeOf s ≤ length t → Valid (planBody s) (actionsBody s) (ruleBody s) c → Decidable s index t c

@@ -1,5 +1,5 @@
--- Demand 3, for every accepted sheet without loop, every buffer long enough and every list of states.
-use Prim.Native.Nat.{ℕ, _+_, _*_, _<_, _≤_}
+-- Demand 3, for every sheet without loop, every table just cleared for it and every list of states.
+use Prim.Native.Nat.{ℕ, _<_, _≤_}
 use mathlib.Core.Path.{_≡_, sym, subst, subst₃, _∙_}
 use mathlib.Core.Bool.{Bool, true}
 use mathlib.Core.List.{List}
@@ -17,14 +17,14 @@ use Rattle.calculus.specs.Meaning.{Holds}
 use Rattle.calculus.specs.Verdict.{emptyContext, Verdict}
 use Rattle.calculus.specs.Guard.{guardedRule}
 use Rattle.calculus.specs.Exchange.{exchanged, exchangedRule}
-use Rattle.calculus.proofs.Exchange.{exchanged-plan, exchanged-actions, exchanged-rule, exchanged-kept, exchanged-node-count, exchanged-binder-count}
+use Rattle.calculus.proofs.Exchange.{exchanged-plan, exchanged-actions, exchanged-rule, exchanged-kept}
 use Rattle.judge.specs.Rows.{value}
 use Rattle.judge.specs.Tables.{byteAt, filled, count, Solvable}
 use Rattle.judge.specs.Loops.{settled, Loop}
 use Rattle.judge.specs.Cells.{Cell, cell, rows, enough, indexOf, cellAt, successors}
 use Rattle.judge.specs.Clearing.{sizeOf, tableCleared}
-use Rattle.judge.specs.Querying.{loopless, QueryReport}
-use Rattle.judge.specs.Demand3.{reports, tableAfter, Reported, visitsOf, queriedCells, NoLoop, Exchange, DemandThree}
+use Rattle.judge.specs.Querying.{NoLoop, loopless, QueryReport}
+use Rattle.judge.specs.Demand3.{reports, tableAfter, Reported, visitsOf, queriedCells, Exchange, Demand3, DemandThree}
 use Rattle.judge.proofs.Bytes.{count-le}
 use Rattle.judge.proofs.FromCleared.{Cleared, cleared}
 use Rattle.judge.proofs.ValidCells.{Valid}
@@ -32,7 +32,7 @@ use Rattle.judge.proofs.Ranks.{rank}
 use Rattle.judge.proofs.CellLayout.{solvable}
 use Rattle.judge.proofs.Truth.{verdict-truth}
 use Rattle.judge.proofs.Acyclic.{acyclic-settled, loopless-acyclic}
-use Rattle.judge.proofs.JustCleared.{clear-done, cleared-length, cleared-below, cleared-above}
+use Rattle.judge.proofs.JustCleared.{clears-long, cleared-only, cleared-length, cleared-below, cleared-above}
 use Rattle.judge.proofs.SheetLists.{Answer, reported-map, same-answers, Fine, Run, run, queried-valid}
 use Rattle.judge.proofs.Exchange.{root-valid, exchange-value, exchange-holds}
 
@@ -109,10 +109,6 @@ module _ (s : List ℕ) (accepted : sheetCheck s ≡ Passed) (none : NoLoop s) w
     other-none : NoLoop other
     other-none = subst (λ (p : List ℕ). (state : ℕ) → state < stateCount p → Loop (successors p) state → ⊥) (sym other-plan) none
 
-    other-size : sizeOf other ≡ sizeOf s
-    other-size =
-        λ i. stateCount (other-plan i) * exchanged-node-count choice kept i * (exchanged-binder-count choice kept i + 1)
-
     other-actions : actionsBody other ≡ actionsBody s
     other-actions = exchanged-actions choice s (kept .ends)
 
@@ -131,54 +127,48 @@ module _ (s : List ℕ) (accepted : sheetCheck s ≡ Passed) (none : NoLoop s) w
         (exchange-holds bodies whole choice state h (settles state h))
 
 module _ (s : List ℕ) (accepted : sheetCheck s ≡ Passed) (none : NoLoop s) (t : List ℕ) (fits : sizeOf s ≤ length t) (states : List ℕ) where
-  exchanges : guardedRule s ≡ true → (choice : ℕ → Bool) (u : List ℕ) → sizeOf s ≤ length u → Exchange s states (reports s (tableCleared s t) states) choice u
-  exchanges whole choice u room = record {
-    accepted = accepted′;
-    cleared = clear-done (exchanged choice s) u accepted′ room′;
-    same-answers =
-        same-answers (stateCount (planBody s)) (solutionOf s) (solutionOf (exchanged choice s)) (same-solution s accepted none whole choice)
-        states (reports s (tableCleared s t) states) answered′ (answers s accepted none t fits states)
-        (subst (λ (p : List ℕ). Reported (Answer (stateCount p) (solutionOf (exchanged choice s))) states answered′) (other-plan s accepted none whole choice)
-        (answers (exchanged choice s) accepted′ none′ u room′ states));
+  exchanges : guardedRule s ≡ true → (choice : ℕ → Bool) → Exchange s states (reports s (tableCleared s t) states) choice
+  exchanges whole choice = record {
+    accepted = other-accepted s accepted none whole choice;
     same-verdicts = same-verdict s accepted none whole choice;
+    same-answers = λ u just.
+        let other = cleared-only (exchanged choice s) u just in
+        same-answers (stateCount (planBody s)) (solutionOf s) (solutionOf (exchanged choice s)) (same-solution s accepted none whole choice)
+        states (reports s (tableCleared s t) states) (answered u) (answers s accepted none t fits states)
+        (subst (λ (p : List ℕ). Reported (Answer (stateCount p) (solutionOf (exchanged choice s))) states (answered u)) (other-plan s accepted none whole choice)
+        (answers (exchanged choice s) (other .0) (other-none s accepted none whole choice) u (other .1) states));
   }
     where
-      accepted′ : sheetCheck (exchanged choice s) ≡ Passed
-      accepted′ = other-accepted s accepted none whole choice
+      answered : List ℕ → List QueryReport
+      answered u = reports (exchanged choice s) (tableCleared (exchanged choice s) u) states
 
-      none′ : NoLoop (exchanged choice s)
-      none′ = other-none s accepted none whole choice
+  demands : Demand3 s t states
+  demands = record {
+    refusals = reported-map (λ state q a. number-of state q a) states (reports s (tableCleared s t) states) (answers s accepted none t fits states);
+    verdicts = reported-map (λ state q a h. verdict-of state q h a) states (reports s (tableCleared s t) states) (answers s accepted none t fits states);
+    exchange = exchanges;
+    cells = left s accepted none t fits states .exactly;
+    solved = λ i h f. left s accepted none t fits states .solved i h (sym (left s accepted none t fits states .exactly i h) ∙ f);
+    empties = λ i h f. left s accepted none t fits states .unsolved i h (sym (left s accepted none t fits states .exactly i h) ∙ f);
+    after-cells = λ i h. left s accepted none t fits states .above i h ∙ cleared-above s t accepted fits i h;
+    length-kept = left s accepted none t fits states .long ∙ cleared-length s t accepted fits;
+    sum = total-is s accepted none t fits states;
+    at-most = rw (total-is s accepted none t fits states) (count-le (sizeOf s) _);
+  }
+    where
+      S : ℕ
+      S = stateCount (planBody s)
 
-      room′ : sizeOf (exchanged choice s) ≤ length u
-      room′ = rw (other-size s accepted none whole choice) room
+      number-of : (state : ℕ) (q : QueryReport) → Answer S (solutionOf s) state q → (q .number ≡ 0) ↔ (state < S)
+      number-of state q (inl a) = (λ e. a .0, λ h. a .1)
+      number-of state q (inr a) = (λ e. absurd (omega arith), λ h. absurd (omega arith))
 
-      answered′ : List QueryReport
-      answered′ = reports (exchanged choice s) (tableCleared (exchanged choice s) u) states
+      verdict-of : (state : ℕ) (q : QueryReport) → state < S → Answer S (solutionOf s) state q → (q .verdict ≡ true) ↔ Verdict s state
+      verdict-of state q h (inl a) = Iff·trans (λ e. sym (a .2) ∙ e, λ e. a .2 ∙ e) (table1 s accepted none state h)
+      verdict-of state q h (inr a) = absurd (omega arith)
 
 pub demand3 : DemandThree
-demand3 s t states accepted none fits = record {
-  cleared = clear-done s t accepted fits;
-  refusals = reported-map (λ state q a. number-of state q a) states (reports s (tableCleared s t) states) (answers s accepted none t fits states);
-  verdicts = reported-map (λ state q a h. verdict-of state q h a) states (reports s (tableCleared s t) states) (answers s accepted none t fits states);
-  exchange = exchanges s accepted none t fits states;
-  cells = λ i h. left s accepted none t fits states .exactly i h;
-  solved = λ i h f. left s accepted none t fits states .solved i h (sym (left s accepted none t fits states .exactly i h) ∙ f);
-  after-cells = λ i h. left s accepted none t fits states .above i h ∙ cleared-above s t accepted fits i h;
-  sum = total-is s accepted none t fits states;
-  at-most = rw (total-is s accepted none t fits states) (count-le (sizeOf s) _);
+demand3 = record {
+  clears = clears-long;
+  lists = λ s t states just none. let q = cleared-only s t just in demands s (q .0) none t (q .1) states;
 }
-  where
-    S : ℕ
-    S = stateCount (planBody s)
-
-    number-of : (state : ℕ) (q : QueryReport) → Answer S (solutionOf s) state q → (q .number ≡ 0) ↔ (state < S)
-    number-of state q (inl a) = (λ e. a .0, λ h. a .1)
-    number-of state q (inr a) = (λ e. absurd (omega arith), λ h. absurd (omega arith))
-
-    verdict-of : (state : ℕ) (q : QueryReport) → state < S → Answer S (solutionOf s) state q → (q .verdict ≡ true) ↔ Verdict s state
-    verdict-of state q h (inl a) = Iff·trans (λ e. sym (a .2) ∙ e, λ e. a .2 ∙ e) (table1 s accepted none state h)
-    verdict-of state q h (inr a) = absurd (omega arith)
-
--- the table keeps its length
-pub length-kept : (s t states : List ℕ) → sheetCheck s ≡ Passed → NoLoop s → sizeOf s ≤ length t → length (tableAfter s (tableCleared s t) states) ≡ length t
-length-kept s t states accepted none fits = left s accepted none t fits states .long ∙ cleared-length s t accepted fits

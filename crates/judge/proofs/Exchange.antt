@@ -29,7 +29,7 @@ use Rattle.calculus.proofs.Alike.{Alike, alike-binder, alike-before, alike-low,
 use Rattle.calculus.proofs.Exchange.{exchanged-alike, exchanged-rule-kept}
 use Rattle.judge.specs.Rows.{Row, Each, disjunction, conjunction, value, Falling}
 use Rattle.judge.specs.Loops.{settled}
-use Rattle.judge.specs.Cells.{Cell, cell, only, following, opened, outer, bottomOf, rows, enough, successors}
+use Rattle.judge.specs.Cells.{Cell, cell, only, following, opened, outer, constantOf, rows, enough, successors}
 use Rattle.judge.proofs.Fuel.{each-map, value-agree}
 use Rattle.judge.proofs.BindersAbove.{binders-ordered, binds-own}
 use Rattle.judge.proofs.Successors.{following-each}
@@ -69,7 +69,7 @@ module _ (p a : List ℕ) {entries : ℕ} {r : List ℕ} (kept : RuleKept entrie
   outward : (m n s : ℕ) → n < nodeCount r → nodeKind r n ≡ 6 → GuardedUnder a r m n → rows p a r (cell m n s) ≡ only (cell 0 (binderNode r (nodeX r n)) s)
   outward m n s l q u =
       variable-row p a kept m n s l q
-      ∙ ap (λ (b : Bool). pick b (only (cell 0 (binderNode r (nodeX r n)) s)) (bottomOf r (binderNode r (nodeX r n)))) (outer-clear m n l q u)
+      ∙ ap (λ (b : Bool). pick b (only (cell 0 (binderNode r (nodeX r n)) s)) (constantOf r (binderNode r (nodeX r n)))) (outer-clear m n l q u)
 
   pair-clear : (m n d : ℕ) → n < nodeCount r → (nodeKind r n ≡ 2) ⊎ (nodeKind r n ≡ 3) → nodeY r n ≡ d → n < d → GuardedUnder a r m n → GuardedUnder a r m (suc n) × GuardedUnder a r m d
   pair-clear zero n d l k y h u = (tt, tt)
@@ -155,9 +155,9 @@ module _ {r r′ : List ℕ} (alike : Alike r r′) where
     part-same (Part.variable {n = n} k y) h u =
         let l : n < nodeCount r′ = omega (arith, alike .count) in
         outward p a kept m n s h k u
-        ∙ ap (λ (b : Bool). pick b (only (cell 0 (binderNode r (nodeX r n)) s)) (bottomOf r′ (binderNode r (nodeX r n)))) (sym (outer-clear p a kept m n h k u))
-        ∙ ap (λ (b : ℕ). pick (outer (nodeX r n) m) (only (cell 0 b s)) (bottomOf r′ b)) (sym (alike-binder-node (nodeX r n)))
-        ∙ ap (λ (x : ℕ). pick (outer x m) (only (cell 0 (binderNode r′ x) s)) (bottomOf r′ (binderNode r′ x))) (sym (alike .xs n))
+        ∙ ap (λ (b : Bool). pick b (only (cell 0 (binderNode r (nodeX r n)) s)) (constantOf r′ (binderNode r (nodeX r n)))) (sym (outer-clear p a kept m n h k u))
+        ∙ ap (λ (b : ℕ). pick (outer (nodeX r n) m) (only (cell 0 b s)) (constantOf r′ b)) (sym (alike-binder-node (nodeX r n)))
+        ∙ ap (λ (x : ℕ). pick (outer x m) (only (cell 0 (binderNode r′ x) s)) (constantOf r′ (binderNode r′ x))) (sym (alike .xs n))
         ∙ sym (variable-row p a kept′ m n s l (alike-low alike n (omega arith) ∙ k))
     part-same (Part.pair {n = n} k x i y j) h u = go k
       where

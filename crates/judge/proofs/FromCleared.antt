@@ -1,5 +1,5 @@
 -- A list of queries on a table just cleared: verdicts, filled cells and visits are those of the rows as written.
-use mathlib.Core.Bool.{Bool, true, false, not, _||_}
+use mathlib.Core.Bool.{Bool, true, false, _||_}
 use mathlib.Core.List.{List, [], _∷_, map}
 use mathlib.Core.Path.{_≡_, refl, sym, ap, ap₂, subst, _∙_}
 use Prim.Native.Nat.{ℕ, _≤_, _<_}
@@ -9,7 +9,7 @@ use borrow.Author.Tests.{eq-eqb}
 use Rattle.judge.specs.Rows.{Row, Each, value, need}
 use Rattle.judge.specs.Tables.{byteAt, empty, filled, byte, changed, among, fills, count, queries, verdict, total, final, neededFor, Solvable}
 use Rattle.judge.proofs.Fuel.{each-map, value-agree, need-agree}
-use Rattle.judge.proofs.Changed.{changed-empty, empty-byte}
+use Rattle.judge.proofs.Changed.{changed-empty, filled-byte}
 use Rattle.judge.proofs.Among.{among-append, among-find}
 use Rattle.judge.proofs.Bytes.{count-none, count-cong}
 use Rattle.judge.proofs.Needs.{solution, needed, changed-solvable}
@@ -80,7 +80,7 @@ module _ {C : Type 0} {index : C → ℕ} {rows : C → Row C} {size : ℕ} {cel
       unsolved i h n = fill-old s t l fits i (passes i h ∙ n) ∙ clear i h
 
       fills-needed : (i : ℕ) → i < size → (b : Bool) → neededFor index rows F cs i ≡ b → filled (byteAt (fill s t l) i) ≡ neededFor index rows F cs i
-      fills-needed i h true n = ap filled (solved i h n) ∙ ap not (empty-byte (value rows F (cellAt i))) ∙ sym n
+      fills-needed i h true n = ap filled (solved i h n) ∙ filled-byte (value rows F (cellAt i)) ∙ sym n
       fills-needed i h false n = ap filled (unsolved i h n) ∙ sym n
 
       sum : total (queries index size cellAt rows F t cs) ≡ count size (λ i. filled (byteAt (fill s t l) i))

@@ -1,19 +1,21 @@
 -- Clearing for an accepted sheet, on a buffer long enough: it is done, the cells are empty, and the bytes after them are as before.
 use Prim.Native.Nat.{ℕ, _+_, _-_, _<_, _≤_}
-use mathlib.Core.Path.{_≡_, sym, ap, subst, _∙_}
+use mathlib.Core.Path.{_≡_, refl, sym, ap, subst, _∙_}
 use mathlib.Core.List.{List, _++_, append-nil}
 use native.Mathlib.Omega.{arith}
 use lib.Dec.{leb}
 use lib.ListN.{length, drop, replicate, length-append, length-drop, length-replicate, getD-replicate, List·getD-append}
 use lib.Seq.{drop-length, getD-append-add, getD-drop}
-use borrow.Author.Tests.{le-leb}
-use Rattle.sheet.specs.Refusals.{require}
+use borrow.Author.Tests.{le-leb, leb-true}
+use Rattle.sheet.specs.Refusals.{numberOf, require}
 use Rattle.sheet.specs.Reading.{sheetCheck}
-use Rattle.sheet.specs.declared.Refusal.the-variants.{TableShort}
-use Rattle.sheet.specs.declared.Check.the-variants.{Passed}
-use Rattle.sheet.proofs.Checks.{then-passed, require-passed}
+use Rattle.sheet.specs.declared.Refusal.{Refusal}
+use Rattle.sheet.specs.declared.Refusal.the-variants.{TooShort, Heading, Contents, PlanSize, TransitionFault, ActionsSize, EntryFault, RuleSize, SyntaxFault, BindingFault, NoSuchState, Loop, TooManyStates, TableShort, TableByte, OutputShort}
+use Rattle.sheet.specs.declared.Check.{Check}
+use Rattle.sheet.specs.declared.Check.the-variants.{Passed, Failed}
+use Rattle.sheet.proofs.Checks.{then-passed, require-passed, passed-then, passed-require}
 use Rattle.judge.specs.Tables.{byteAt}
-use Rattle.judge.specs.Clearing.{sizeOf, clearCheck, answerCleared, clearedOf, emptied, tableCleared}
+use Rattle.judge.specs.Clearing.{sizeOf, clearCheck, answerCleared, clearedOf, emptied, tableCleared, reportClear, clearReportOf}
 use Rattle.judge.specs.declared.Cleared.the-variants.{Done}
 
 -- as many empty cells
@@ -59,6 +61,39 @@ module _ (s t : List ℕ) (accepted : sheetCheck s ≡ Passed) (fits : sizeOf s 
 
       later : byteAt (drop (sizeOf s) t) (i - sizeOf s) ≡ byteAt t i
       later = let q : sizeOf s + (i - sizeOf s) ≡ i = omega arith in getD-drop (sizeOf s) t (i - sizeOf s) 0 ∙ ap (byteAt t) q
+
+-- clearing gives number 0 for an accepted sheet on every buffer long enough, and for no other
+pub clears-long : (s t : List ℕ) → sheetCheck s ≡ Passed → sizeOf s ≤ length t → clearReportOf s t .number ≡ 0
+unfolding clearReportOf
+clears-long s t accepted fits = ap (λ (c : Check). reportClear c .number) (clear-passed s t accepted fits)
+
+refused-number : (x : Refusal) → 0 < numberOf x
+refused-number TooShort = omega arith
+refused-number Heading = omega arith
+refused-number Contents = omega arith
+refused-number PlanSize = omega arith
+refused-number (TransitionFault t) = omega arith
+refused-number ActionsSize = omega arith
+refused-number (EntryFault e) = omega arith
+refused-number RuleSize = omega arith
+refused-number (SyntaxFault n) = omega arith
+refused-number (BindingFault n) = omega arith
+refused-number NoSuchState = omega arith
+refused-number Loop = omega arith
+refused-number TooManyStates = omega arith
+refused-number TableShort = omega arith
+refused-number TableByte = omega arith
+refused-number OutputShort = omega arith
+
+pub cleared-only : (s t : List ℕ) → clearReportOf s t .number ≡ 0 → (sheetCheck s ≡ Passed) × (sizeOf s ≤ length t)
+unfolding clearReportOf clearCheck
+cleared-only s t e =
+    let q = passed-then (sheetCheck s) (require (leb (sizeOf s) (length t)) TableShort) (go (clearCheck s t) e) in
+    (q .0, leb-true (sizeOf s) (length t) (passed-require (leb (sizeOf s) (length t)) TableShort (q .1)))
+  where
+    go : (c : Check) → reportClear c .number ≡ 0 → c ≡ Passed
+    go Passed e = refl
+    go (Failed x) e = absurd (omega (arith, refused-number x))
 
 -- a buffer of as many bytes as there are cells
 pub cleared-exact : (s t : List ℕ) → sheetCheck s ≡ Passed → length t ≡ sizeOf s → tableCleared s t ≡ replicate (sizeOf s) 0

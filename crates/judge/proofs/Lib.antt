@@ -41,3 +41,5 @@ pub mod FollowSteps
 pub mod FollowWalk
 pub mod QueryAnswers
 pub mod Delivered
+pub mod Twelve
+pub mod Solutions

@@ -23,6 +23,7 @@ use Rattle.judge.specs.Cells.{cell, successors}
 use Rattle.judge.specs.Clearing.{sizeOf}
 use Rattle.judge.specs.Querying.{loopless, bytesRight, queryCheck, resultOf, answerQueried, queriedOf, leftBy, tableQueried, reportedQuery, reportQuery, queryReportOf}
 use Rattle.judge.specs.Deciding.{Prepared, Decidable, Decided, verdictIn, visitsIn}
+use Rattle.judge.specs.Delivered.{Queries}
 use Rattle.judge.specs.declared.Queried.{Queried}
 use Rattle.judge.specs.declared.Queried.the-variants.{Judged, Refused}
 use Rattle.judge.proofs.Acyclic.{loopless-settled}
@@ -76,9 +77,9 @@ largest-end size t i most h g (fine l q) = le-leb most 2 l ∙ bytes-fine size t
 largest-end size t i most h g (over l q) = lt-leb most 2 l ∙ q
 
 module _ (s : List ℕ) (state : ℕ) (t : List ℕ) where
-  -- the answer, what it reports and what the table then holds
+  -- the clauses of the contract
   abbrev Answers : Queried → List ℕ → Type 0
-  Answers r now = (r ≡ queriedOf s state t) × ((reportedQuery r ≡ queryReportOf s state t) × (now ≡ tableQueried s state t))
+  Answers = Queries s state t
 
   answers : (r : Queried) (now : List ℕ) → r ≡ queriedOf s state t → now ≡ tableQueried s state t → Answers r now
   unfolding queriedOf queryReportOf

@@ -27,7 +27,7 @@ use Rattle.calculus.proofs.Nodes.{node-part, false-node, true-node, or-node, an
 use Rattle.calculus.proofs.Variables.{Above, not-binder, is-binder, above-next, above-second}
 use Rattle.judge.specs.Rows.{Row, joined, Each, value}
 use Rattle.judge.specs.Loops.{settled, height}
-use Rattle.judge.specs.Cells.{Cell, cell, only, opened, outer, bottomOf, rows, enough, successors}
+use Rattle.judge.specs.Cells.{Cell, cell, only, opened, outer, constantOf, rows, enough, successors}
 use Rattle.judge.proofs.BindersAbove.{above-node, bound-above, binds-own}
 use Rattle.judge.proofs.Successors.{target-among}
 use Rattle.judge.proofs.CellRows.{false-row, true-row, or-row, and-row, some-row, every-row, variable-row, binder-row}
@@ -93,8 +93,8 @@ module _ {p a r : List ℕ} (kept : BodiesKept p a r) (f : ℕ) (rest : Solved p
       given : (b : Bool) → outer x m ≡ b → ρ x s ≡ pick b (ownSets p a r x s) (eqb (nodeKind r (binderNode r x)) 8)
       given b q = right .here x u ∙ ap (λ (c : Bool). pick c (ownSets p a r x s) (eqb (nodeKind r (binderNode r x)) 8)) q
 
-      go : (b : Bool) → outer x m ≡ b → Each (Smaller p a r (cell m n s)) (pick b (only (cell 0 (binderNode r x) s)) (bottomOf r (binderNode r x)) .entries)
-          → rowValue p a r f (pick b (only (cell 0 (binderNode r x) s)) (bottomOf r (binderNode r x))) ≡ ρ x s
+      go : (b : Bool) → outer x m ≡ b → Each (Smaller p a r (cell m n s)) (pick b (only (cell 0 (binderNode r x) s)) (constantOf r (binderNode r x)) .entries)
+          → rowValue p a r f (pick b (only (cell 0 (binderNode r x) s)) (constantOf r (binderNode r x))) ≡ ρ x s
       go true q e =
           only-joined (value (rows p a r) f) (cell 0 (binderNode r x) s) ∙ entry (e .0) (own-right p a r (binderNode r x) s)
           ∙ sym (own-fixed kept (binderNode r x) x s (subst (λ (b : ℕ). Binds r b x) (sym (above-node u)) (u .binds)) (v .state-below)) ∙ sym (given true q)

@@ -19,7 +19,7 @@ use Rattle.calculus.proofs.Variables.{Above, not-binder, is-binder, above-next,
 use Rattle.judge.specs.Rows.{Row, Each}
 use Rattle.judge.specs.Tables.{constant}
 use Rattle.judge.specs.Loops.{settled}
-use Rattle.judge.specs.Cells.{Cell, cell, only, following, opened, outer, bottomOf, rows, successors}
+use Rattle.judge.specs.Cells.{Cell, cell, only, following, opened, outer, constantOf, rows, successors}
 use Rattle.judge.proofs.Fuel.{each-map}
 use Rattle.judge.proofs.Height.{successor-settled}
 use Rattle.judge.proofs.BindersAbove.{above-node, bound-above, above-inside, above-own, binds-own}
@@ -74,7 +74,7 @@ module _ (p a : List ℕ) {entries : ℕ} {r : List ℕ} (kept : RuleKept entrie
   part-entries (Part.variable {n = n} k y) h = by-row n (variable-row p a kept m n s h k) (go (outer (nodeX r n) m) refl)
     where
       go : (b : Bool) → outer (nodeX r n) m ≡ b
-          → Each (Entry p entries r m n s) (pick b (only (cell 0 (binderNode r (nodeX r n)) s)) (bottomOf r (binderNode r (nodeX r n))) .entries)
+          → Each (Entry p entries r m n s) (pick b (only (cell 0 (binderNode r (nodeX r n)) s)) (constantOf r (binderNode r (nodeX r n))) .entries)
       go true q = (outward (bound-above (kept .bound n h k)) q, tt)
       go false q = constant-each (Entry p entries r m n s) (eqb (nodeKind r (binderNode r (nodeX r n))) 8)
   part-entries (Part.pair {n = n} {m = d} {e = e} k x i y j) h = go k

@@ -1,20 +1,21 @@
 -- Document 01, "Rows": the cells of a sheet, their rows and their places in the table. The definitions speak of the bytes of the sheet's
 -- three bodies: p the plan, a the action formulas, r the rule.
-use Prim.Native.Nat.{ℕ, zero, suc, _+_, _*_, _-_, _/_, _%_}
-use mathlib.Core.Bool.{Bool, true, false, not, _&&_, _||_}
+use Prim.Native.Nat.{ℕ, zero, suc, _+_, _*_, _<_, _/_, _%_}
+use mathlib.Core.Path.{_≡_}
+use mathlib.Core.Bool.{Bool, true, false, _&&_}
 use mathlib.Core.List.{List, [], _∷_}
 use lib.Dec.{eqb, ltb}
 use Rattle.sheet.specs.Bytes.{pick}
 use Rattle.sheet.specs.Plan.{stateCount, actionCount}
-use Rattle.sheet.specs.Rule.{nodeCount, nodeKind, nodeX, nodeY, binderCount, binderNode}
+use Rattle.sheet.specs.Rule.{nodeCount, nodeKind, nodeX, nodeY, binderCount, binderNode, below}
 use Rattle.calculus.specs.Plans.{Transition}
 use Rattle.calculus.specs.Meaning.{meets}
 use Rattle.calculus.specs.Decode.{planOf, actionFormula, NodeSort, falseNode, trueNode, orNode, andNode, someNode, everyNode, variableNode, leastNode, greatestNode, unknownNode, nodeSort}
 use Rattle.judge.specs.Rows.{Row, disjunction, conjunction}
 use Rattle.judge.specs.Tables.{constant}
-use Rattle.judge.specs.Loops.{settled}
 
--- "A cell is (mark, node, state). Mark 0: no binder is open. Mark k + 1: binder k and the binders below it are open."
+-- "A cell is (mark, node, state)": a boolean variable of the equation system (document 000, Table 2 and Definition 6). "Mark 0: no binder is open. Mark k + 1:
+-- binder k and the binders below it are open": a binder is open while no modality was crossed since it was entered.
 pub record Cell : Type 0 where
   pub mark : ℕ
   pub node : ℕ
@@ -22,6 +23,17 @@ pub record Cell : Type 0 where
 
 abbrev pub cell : ℕ → ℕ → ℕ → Cell
 cell m n s = record { mark = m; node = n; state = s }
+
+-- "Mark k + 1 .. is used only with nodes below binder k."
+abbrev pub MarkRight : List ℕ → ℕ → ℕ → Type 0
+MarkRight r zero n = Unit {0}
+MarkRight r (suc k) n = (k < binderCount r) × (below r (binderNode r k) n ≡ true)
+
+-- the cells of a plan p and a rule r
+pub record CellOf (p r : List ℕ) (c : Cell) : Type 0 where
+  pub node-below : c .node < nodeCount r
+  pub state-below : c .state < stateCount p
+  pub mark-right : MarkRight r (c .mark) (c .node)
 
 -- a row with one entry: "or" and "and" of one cell are the same
 abbrev pub only : Cell → Row Cell
@@ -45,8 +57,8 @@ outer k zero = true
 outer k (suc m) = ltb k m
 
 -- "an empty "or" for a least, an empty "and" for a greatest fixed point", by the kind of the binder's node
-abbrev pub bottomOf : List ℕ → ℕ → Row Cell
-bottomOf r b = constant (eqb (nodeKind r b) 8)
+abbrev pub constantOf : List ℕ → ℕ → Row Cell
+constantOf r b = constant (eqb (nodeKind r b) 8)
 
 module _ (p a r : List ℕ) where
   -- "For node n at s under mark m the row is": by the kind of n
@@ -61,16 +73,18 @@ module _ (p a r : List ℕ) where
   rowOf c someNode = record { connective = disjunction; entries = following (actionCount p) a (nodeX r (c .node)) (nodeY r (c .node)) (c .state) (planOf p .transitions) }
   rowOf c everyNode = record { connective = conjunction; entries = following (actionCount p) a (nodeX r (c .node)) (nodeY r (c .node)) (c .state) (planOf p .transitions) }
   -- "variable k: if m = 0 or k < m - 1, the cell (0, node of binder k, s); else an empty "or" for a least, an empty "and" for a greatest fixed point."
-  rowOf c variableNode = pick (outer (nodeX r (c .node)) (c .mark)) (only (cell 0 (binderNode r (nodeX r (c .node))) (c .state))) (bottomOf r (binderNode r (nodeX r (c .node))))
+  rowOf c variableNode = pick (outer (nodeX r (c .node)) (c .mark)) (only (cell 0 (binderNode r (nodeX r (c .node))) (c .state))) (constantOf r (binderNode r (nodeX r (c .node))))
   -- "binder k: the child at s, under k + 1 if m = 0, else under m."
   rowOf c leastNode = only (cell (opened (nodeX r (c .node)) (c .mark)) (nodeY r (c .node)) (c .state))
   rowOf c greatestNode = only (cell (opened (nodeX r (c .node)) (c .mark)) (nodeY r (c .node)) (c .state))
+  -- no node of an accepted sheet
   rowOf c unknownNode = constant false
 
+  -- the row of a cell
   unfoldable pub rows : Cell → Row Cell
   rows c = rowOf c (nodeSort (nodeKind r (c .node)))
 
--- no chain of rows of an accepted sheet without loops is longer
+-- no chain of rows of an accepted sheet without loops is as long (`rank-enough` of proofs/Ranks.antt)
 abbrev pub enough : ℕ
 enough = 131072
 
@@ -86,7 +100,7 @@ cellCount p r = stateCount p * nodeCount r * marks r
 abbrev pub indexOf : List ℕ → Cell → ℕ
 indexOf r c = (c .state * nodeCount r + c .node) * marks r + c .mark
 
--- the cell at a byte
+-- the cell at a byte: the inverse of indexOf on a sheet's cells (`layout` of proofs/CellLayout.antt)
 abbrev pub cellAt : List ℕ → ℕ → Cell
 cellAt r i = cell (i % marks r) (i / marks r % nodeCount r) (i / marks r / nodeCount r)
 

@@ -14,7 +14,7 @@ use Rattle.judge.specs.Cells.{cellCount}
 use Rattle.judge.specs.declared.Cleared.{Cleared}
 use Rattle.judge.specs.declared.Cleared.the-variants.{Done, Refused}
 
--- the number of cells of a sheet
+-- "S × N × (B + 1)", of a sheet
 abbrev pub sizeOf : List ℕ → ℕ
 sizeOf s = cellCount (planBody s) (ruleBody s)
 
@@ -22,6 +22,7 @@ sizeOf s = cellCount (planBody s) (ruleBody s)
 unfoldable pub clearCheck : List ℕ → List ℕ → Check
 clearCheck s t = andThen (sheetCheck s) (require (leb (sizeOf s) (length t)) TableShort)
 
+-- what clearing answers for every sheet and buffer
 abbrev pub answerCleared : Check → Cleared
 answerCleared Passed = Done
 answerCleared (Failed r) = Refused r
@@ -29,7 +30,7 @@ answerCleared (Failed r) = Refused r
 unfoldable pub clearedOf : List ℕ → List ℕ → Cleared
 clearedOf s t = answerCleared (clearCheck s t)
 
--- "Clearing sets them to 0"; "Bytes after these are never changed"; "A refused call changes no buffer"
+-- "Clearing sets them to 0"; "Bytes after these are never changed"; "A refused call .. changes no buffer"
 abbrev pub emptied : ℕ → List ℕ → Check → List ℕ
 emptied size t Passed = replicate size 0 ++ drop size t
 emptied size t (Failed r) = t

@@ -17,7 +17,7 @@ use Rattle.judge.specs.Rows.{Connective, disjunction, conjunction}
 use Rattle.judge.specs.Tables.{Result, out, known, query}
 use Rattle.judge.specs.Solver.{walk}
 use Rattle.judge.specs.Loops.{settled}
-use Rattle.judge.specs.Cells.{Cell, cell, following, rows, enough, indexOf, cellAt, marks, successors}
+use Rattle.judge.specs.Cells.{Cell, cell, MarkRight, following, rows, enough, indexOf, cellAt, marks, successors}
 use Rattle.judge.specs.Clearing.{sizeOf}
 
 -- transitions stand in the order of their origins: the first of state s or of a later one, or T
@@ -33,11 +33,6 @@ pub record Prepared (s index : List ℕ) : Type 0 where
   pub binders-are : (k : ℕ) → k < 6 → getD index (3 + k) 0 ≡ binderNode (ruleBody s) k
   pub firsts-are : (state : ℕ) → state ≤ stateCount (planBody s) → getD index (16 + state) 0 ≡ firstFrom (planBody s) state
   pub masks-are : (i : ℕ) → i < transitionCount (planBody s) → getD index (160 + label (planBody s) i) 0 ≡ meetingMask (actionCount (planBody s)) (actionsBody s) (label (planBody s) i)
-
--- "Mark k + 1 .. is used only with nodes below binder k"
-abbrev pub MarkRight : List ℕ → ℕ → ℕ → Type 0
-MarkRight r zero n = Unit {0}
-MarkRight r (suc k) n = (k < binderCount r) × (below r (binderNode r k) n ≡ true)
 
 -- a cell of an accepted sheet, at a state from which no loop can be reached, with what is prepared and a table that has all cells
 pub record Decidable (s index t : List ℕ) (c : Cell) : Type 0 where

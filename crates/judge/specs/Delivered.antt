@@ -1,16 +1,14 @@
 -- Demand 3 of the running calls. What the contracts of `clear` and `query` promise of one call, and a list of calls each of which keeps its promise.
-use Prim.Native.Nat.{ℕ, _≤_}
+use Prim.Native.Nat.{ℕ}
 use mathlib.Core.Path.{_≡_}
 use mathlib.Core.Bool.{Bool, true}
 use mathlib.Core.List.{List, [], _∷_}
-use lib.ListN.{length}
 use Rattle.calculus.specs.Exchange.{exchanged}
 use Rattle.calculus.specs.Guard.{guardedRule}
-use Rattle.judge.specs.Clearing.{sizeOf, clearedOf, tableCleared, reportedClear, clearReportOf}
+use Rattle.judge.specs.Clearing.{clearedOf, tableCleared, reportedClear, clearReportOf}
 use Rattle.judge.specs.Querying.{queriedOf, tableQueried, QueryReport, reportedQuery, queryReportOf}
 use Rattle.judge.specs.Demand3.{reports, tableAfter, SameAnswers, Demand3}
 use Rattle.judge.specs.declared.Cleared.{Cleared}
-use Rattle.judge.specs.declared.Cleared.the-variants.{Done}
 use Rattle.judge.specs.declared.Queried.{Queried}
 
 -- `clear` on the sheet s and the buffer t answered r and left u: the clauses of its contract
@@ -26,11 +24,10 @@ pub data Calls (s : List ℕ) : List ℕ → List ℕ → List QueryReport → L
   none : {t : List ℕ} → Calls s t [] [] t
   call : {t u v states : List ℕ} {state : ℕ} {answers : List QueryReport} (r : Queried) → Queries s state t r u → Calls s u states answers v → Calls s t (state ∷ states) (reportedQuery r ∷ answers) v
 
--- clearing and the calls after it are those that demand 3 speaks of, and it holds of them
-pub record Delivered (s t states : List ℕ) (r : Cleared) (answers : List QueryReport) (v : List ℕ) : Type 0 where
-  pub cleared : r ≡ Done
+-- Demand 3 of the running calls: what `query` answered after `clear` and the table that it left are what demand 3 speaks of, and it holds of them.
+pub record Delivered (s t states : List ℕ) (answers : List QueryReport) (v : List ℕ) : Type 0 where
   pub answers-are : answers ≡ reports s (tableCleared s t) states
   pub table-is : v ≡ tableAfter s (tableCleared s t) states
   pub demand3 : Demand3 s t states
   -- "the exchanged sheet has a table of its own, just cleared for it, and gets the same list": the calls that run on it give the same answers
-  pub exchange : guardedRule s ≡ true → (choice : ℕ → Bool) (t′ u′ v′ : List ℕ) (r′ : Cleared) (answers′ : List QueryReport) → sizeOf s ≤ length t′ → Clears (exchanged choice s) t′ r′ u′ → Calls (exchanged choice s) u′ states answers′ v′ → (r′ ≡ Done) × SameAnswers answers answers′
+  pub exchange : guardedRule s ≡ true → (choice : ℕ → Bool) (t′ u′ v′ : List ℕ) (r′ : Cleared) (answers′ : List QueryReport) → Clears (exchanged choice s) t′ r′ u′ → reportedClear r′ .number ≡ 0 → Calls (exchanged choice s) u′ states answers′ v′ → SameAnswers answers answers′

@@ -18,11 +18,9 @@ use Rattle.calculus.specs.Exchange.{exchanged}
 use Rattle.calculus.specs.Guard.{guardedRule}
 use Rattle.judge.specs.Rows.{value}
 use Rattle.judge.specs.Tables.{byteAt, filled, byte, count, neededFor}
-use Rattle.judge.specs.Loops.{Loop}
-use Rattle.judge.specs.Cells.{Cell, cell, rows, enough, indexOf, cellAt, successors}
-use Rattle.judge.specs.Clearing.{sizeOf, clearedOf, tableCleared}
-use Rattle.judge.specs.Querying.{QueryReport, reportedQuery, queriedOf, tableQueried}
-use Rattle.judge.specs.declared.Cleared.the-variants.{Done}
+use Rattle.judge.specs.Cells.{Cell, cell, rows, enough, indexOf, cellAt}
+use Rattle.judge.specs.Clearing.{sizeOf, tableCleared, clearReportOf}
+use Rattle.judge.specs.Querying.{NoLoop, QueryReport, reportedQuery, queriedOf, tableQueried}
 
 -- "A list is any number of queries, of states below S or not, with one sheet and one table": what each reports, the table handed on from query to query
 unfoldable pub reports : List ℕ → List ℕ → List ℕ → List QueryReport
@@ -58,40 +56,43 @@ unfoldable pub queriedCells : ℕ → List ℕ → List Cell
 queriedCells S [] = []
 queriedCells S (state ∷ states) = pick (ltb state S) (cell 0 0 state ∷ queriedCells S states) (queriedCells S states)
 
--- "A loop is a way of one or more transitions from a state back to it."
-abbrev pub NoLoop : List ℕ → Type 0
-NoLoop s = (state : ℕ) → state < stateCount (planBody s) → Loop (successors (planBody s)) state → ⊥
+-- "The table is just cleared when clearing gave number 0 on it with that sheet"
+abbrev pub JustCleared : List ℕ → List ℕ → Type 0
+JustCleared s t = clearReportOf s t .number ≡ 0
 
--- "for guarded rules and every choice of exchanged fixed points": the exchanged sheet, with a table of its own, just cleared for it, and the same list
-pub record Exchange (s states : List ℕ) (answers : List QueryReport) (choice : ℕ → Bool) (u : List ℕ) : Type 0 where
+-- "Exchanging fixed points turns 7 into 8 or 8 into 7 in any choice of binder nodes ..; the exchanged sheet has a table of its own, just cleared for it, and
+-- gets the same list."
+pub record Exchange (s states : List ℕ) (answers : List QueryReport) (choice : ℕ → Bool) : Type 0 where
   pub accepted : sheetCheck (exchanged choice s) ≡ Passed
-  pub cleared : clearedOf (exchanged choice s) u ≡ Done
-  -- the queries' answers are unchanged
-  pub same-answers : SameAnswers answers (reports (exchanged choice s) (tableCleared (exchanged choice s) u) states)
-  -- and so is Table 1's verdict
+  -- Table 1's verdict is unchanged
   pub same-verdicts : (state : ℕ) → state < stateCount (planBody s) → Verdict s state ↔ Verdict (exchanged choice s) state
+  -- and so are the queries' answers
+  pub same-answers : (u : List ℕ) → JustCleared (exchanged choice s) u → SameAnswers answers (reports (exchanged choice s) (tableCleared (exchanged choice s) u) states)
 
--- A sheet s, a lent buffer t and a list of states, started from what clearing gives.
+-- A sheet s, a lent buffer t just cleared for it, and a list of states.
 pub record Demand3 (s t states : List ℕ) : Type 0 where
-  -- "The table is just cleared when clearing gave number 0 on it with that sheet, as it does for an accepted sheet on every buffer long enough."
-  pub cleared : clearedOf s t ≡ Done
-  -- refused are exactly the queries of a state that the plan doesn't have
+  -- "A query is refused when its number isn't 0": refused are exactly the queries of a state that the plan doesn't have
   pub refusals : Reported (λ state q. (q .number ≡ 0) ↔ (state < stateCount (planBody s))) states (reports s (tableCleared s t) states)
   -- every other query's verdict is Table 1's, on the rule as written
   pub verdicts : Reported (λ state q. state < stateCount (planBody s) → (q .verdict ≡ true) ↔ Verdict s state) states (reports s (tableCleared s t) states)
   -- in a guarded rule fixed points can be exchanged
-  pub exchange : guardedRule s ≡ true → (choice : ℕ → Bool) (u : List ℕ) → sizeOf s ≤ length u → Exchange s states (reports s (tableCleared s t) states) choice u
-  -- filled are exactly the cells needed for the queries not refused, by the rows as written
+  pub exchange : guardedRule s ≡ true → (choice : ℕ → Bool) → Exchange s states (reports s (tableCleared s t) states) choice
+  -- filled are exactly the cells "needed for (0, 0, s), s the state of at least one of" the queries not refused, by the rows as written
   pub cells : (i : ℕ) → i < sizeOf s → filled (byteAt (tableAfter s (tableCleared s t) states) i) ≡ neededFor (indexOf (ruleBody s)) (rows (planBody s) (actionsBody s) (ruleBody s)) enough (queriedCells (stateCount (planBody s)) states) i
   -- each with its solution
   pub solved : (i : ℕ) → i < sizeOf s → filled (byteAt (tableAfter s (tableCleared s t) states) i) ≡ true → byteAt (tableAfter s (tableCleared s t) states) i ≡ byte (value (rows (planBody s) (actionsBody s) (ruleBody s)) enough (cellAt (ruleBody s) i))
+  -- every other cell is empty
+  pub empties : (i : ℕ) → i < sizeOf s → filled (byteAt (tableAfter s (tableCleared s t) states) i) ≡ false → byteAt (tableAfter s (tableCleared s t) states) i ≡ 0
   -- "Bytes after these are never changed."
   pub after-cells : (i : ℕ) → sizeOf s ≤ i → byteAt (tableAfter s (tableCleared s t) states) i ≡ byteAt t i
+  pub length-kept : length (tableAfter s (tableCleared s t) states) ≡ length t
   -- the visits' sum is the number of filled cells
   pub sum : visitsOf (reports s (tableCleared s t) states) ≡ count (sizeOf s) (λ i. filled (byteAt (tableAfter s (tableCleared s t) states) i))
   -- and at most states × nodes × (binders + 1)
   pub at-most : visitsOf (reports s (tableCleared s t) states) ≤ stateCount (planBody s) * nodeCount (ruleBody s) * (binderCount (ruleBody s) + 1)
 
--- every accepted sheet without loop, every buffer long enough, every list of states
-abbrev pub DemandThree : Type 0
-DemandThree = (s t states : List ℕ) → sheetCheck s ≡ Passed → NoLoop s → sizeOf s ≤ length t → Demand3 s t states
+pub record DemandThree : Type 0 where
+  -- "as it does for an accepted sheet on every buffer long enough"
+  pub clears : (s t : List ℕ) → sheetCheck s ≡ Passed → sizeOf s ≤ length t → JustCleared s t
+  -- every sheet without loop, every table just cleared for it, every list of states
+  pub lists : (s t states : List ℕ) → JustCleared s t → NoLoop s → Demand3 s t states

@@ -9,19 +9,19 @@ unfoldable pub every : (ℕ → Bool) → List ℕ → Bool
 every p [] = true
 every p (s ∷ l) = p s && every p l
 
-module _ (next : ℕ → List ℕ) where
-  -- "a way of one or more transitions"
-  pub data Way : ℕ → ℕ → Type 0 where
-    last : {s t : ℕ} → List·Memᴰ t (next s) → Way s t
-    first : {s u t : ℕ} → List·Memᴰ u (next s) → Way u t → Way s t
+-- "a way of one or more transitions", and a "chain of rows": one or more steps, each to one of the next
+pub data Way {C : Type 0} (next : C → List C) : C → C → Type 0 where
+  last : {s t : C} → List·Memᴰ t (next s) → Way next s t
+  first : {s u t : C} → List·Memᴰ u (next s) → Way next u t → Way next s t
 
-  -- "A loop is a way of one or more transitions from a state back to it"
+module _ (next : ℕ → List ℕ) where
+  -- "A loop is a way of one or more transitions from a state back to it."
   abbrev pub Loop : ℕ → Type 0
-  Loop s = Way s s
+  Loop s = Way next s s
 
   -- a loop can be reached from s: s lies on one, or a way leads from s to one
   abbrev pub ReachesLoop : ℕ → Type 0
-  ReachesLoop s = Loop s ⊎ ((t : ℕ) × Way s t × Loop t)
+  ReachesLoop s = Loop s ⊎ ((t : ℕ) × Way next s t × Loop t)
 
   -- round 0 settles no state; round r + 1 settles a state whose every successor is settled in round r
   unfoldable pub settled : ℕ → ℕ → Bool

@@ -1,6 +1,8 @@
 -- A query: what it answers and what it leaves in the table's buffer, for every list of bytes as sheet and as buffer and every state.
-use Prim.Native.Nat.{ℕ, zero, suc}
-use mathlib.Core.Bool.{Bool, true, false, not}
+use Prim.Native.Nat.{ℕ, _<_}
+use mathlib.Core.Path.{_≡_}
+use mathlib.Core.Logic.{_↔_}
+use mathlib.Core.Bool.{Bool, false, not}
 use mathlib.Core.List.{List}
 use lib.ListN.{length}
 use lib.Dec.{eqb, ltb, leb}
@@ -9,17 +11,25 @@ use Rattle.sheet.specs.Refusals.{numberOf, placeOf, require, andThen}
 use Rattle.sheet.specs.Contents.{planBody, actionsBody, ruleBody}
 use Rattle.sheet.specs.Plan.{stateCount}
 use Rattle.sheet.specs.Reading.{sheetCheck}
-use Rattle.sheet.specs.declared.Refusal.the-variants.{NoSuchState, Loop, TableShort, TableByte}
+use Rattle.sheet.specs.declared.Refusal.the-variants.{NoSuchState, Loop as LoopRefusal, TableShort, TableByte}
 use Rattle.sheet.specs.declared.Check.{Check}
 use Rattle.sheet.specs.declared.Check.the-variants.{Passed, Failed}
-use Rattle.judge.specs.Loops.{settled}
-use Rattle.judge.specs.Tables.{byteAt, Result, out, verdict, visits, table, query}
-use Rattle.judge.specs.Cells.{Cell, cell, rows, enough, indexOf, cellAt, successors}
+use Rattle.judge.specs.Loops.{settled, Loop}
+use Rattle.judge.specs.Tables.{byteAt, Result, verdict, visits, table, query}
+use Rattle.judge.specs.Cells.{cell, rows, enough, indexOf, cellAt, successors}
 use Rattle.judge.specs.Clearing.{sizeOf}
 use Rattle.judge.specs.declared.Queried.{Queried}
 use Rattle.judge.specs.declared.Queried.the-variants.{Judged, Refused}
 
--- "12: the plan has a loop": a plan has none exactly when every state is settled after S rounds (`settled-exactly` of proofs/Settled.antt)
+-- "A loop is a way of one or more transitions from a state back to it."
+abbrev pub NoLoop : List ℕ → Type 0
+NoLoop s = (state : ℕ) → state < stateCount (planBody s) → Loop (successors (planBody s)) state → ⊥
+
+abbrev pub HasLoop : List ℕ → Type 0
+HasLoop s = (state : ℕ) × (state < stateCount (planBody s)) × Loop (successors (planBody s)) state
+
+-- "12: the plan has a loop", as a test: some state is not settled after S rounds. That the test fails exactly where there is a loop is `twelve-exactly` of
+-- proofs/Twelve.antt
 unfoldable pub loopless : List ℕ → Bool
 loopless p = eqb (lowest (λ s. not (settled (successors p) (stateCount p) s)) (stateCount p)) (stateCount p)
 
@@ -32,7 +42,7 @@ unfoldable pub queryCheck : List ℕ → ℕ → List ℕ → Check
 queryCheck s state t =
     andThen (sheetCheck s)
     (andThen (require (ltb state (stateCount (planBody s))) NoSuchState)
-    (andThen (require (loopless (planBody s)) Loop)
+    (andThen (require (loopless (planBody s)) LoopRefusal)
     (andThen (require (leb (sizeOf s) (length t)) TableShort) (require (bytesRight (sizeOf s) t) TableByte))))
 
 -- the query of a sheet at (0, 0, state): verdict, visits and the table that it leaves
@@ -40,6 +50,7 @@ abbrev pub resultOf : List ℕ → ℕ → List ℕ → Result
 resultOf s state t =
     query (indexOf (ruleBody s)) (sizeOf s) (cellAt (ruleBody s)) (rows (planBody s) (actionsBody s) (ruleBody s)) enough t (cell 0 0 state)
 
+-- "It gives the solution at (0, 0, s) .. and reports how many it filled as its visits", or its refusal
 abbrev pub answerQueried : Result → Check → Queried
 answerQueried r Passed = Judged (verdict r) (visits r)
 answerQueried r (Failed x) = Refused x
@@ -47,7 +58,7 @@ answerQueried r (Failed x) = Refused x
 unfoldable pub queriedOf : List ℕ → ℕ → List ℕ → Queried
 queriedOf s state t = answerQueried (resultOf s state t) (queryCheck s state t)
 
--- "A refused call changes no buffer"
+-- "A refused call .. changes no buffer"
 abbrev pub leftBy : Result → List ℕ → Check → List ℕ
 leftBy r t Passed = table r
 leftBy r t (Failed x) = t
@@ -55,8 +66,8 @@ leftBy r t (Failed x) = t
 unfoldable pub tableQueried : List ℕ → ℕ → List ℕ → List ℕ
 tableQueried s state t = leftBy (resultOf s state t) t (queryCheck s state t)
 
--- What each answer reports: number, place, verdict and visits. "A refused call gives verdict false, visits 0. An accepted call gives number 0 and
--- place 0."
+-- What each answer reports: number, place, verdict and visits. "A refused call gives verdict .. false, .. visits .. 0"; "An accepted call gives number 0
+-- and place 0."
 pub record QueryReport : Type 0 where
   pub number : ℕ
   pub place : ℕ
@@ -74,3 +85,7 @@ reportQuery r (Failed x) = record { number = numberOf x; place = placeOf x; verd
 
 unfoldable pub queryReportOf : List ℕ → ℕ → List ℕ → QueryReport
 queryReportOf s state t = reportQuery (resultOf s state t) (queryCheck s state t)
+
+-- "12: the plan has a loop (query only)", by the definition of a loop: of an accepted sheet, queried at a state that it has
+abbrev pub TwelveExactly : Type 0
+TwelveExactly = (s : List ℕ) (state : ℕ) (t : List ℕ) → sheetCheck s ≡ Passed → state < stateCount (planBody s) → (queryReportOf s state t .number ≡ 12) ↔ HasLoop s

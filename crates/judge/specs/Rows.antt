@@ -1,13 +1,14 @@
 -- Rows of cells, their solution and need, as document 01 has them under "Rows". Cells are any type; nothing is said here of marks, nodes and states.
 use mathlib.Core.Bool.{Bool, true, false, not, Bool·beq}
 use mathlib.Core.List.{List, [], _∷_, _++_}
+use mathlib.Core.Path.{_≡_}
 use Prim.Native.Nat.{ℕ, zero, suc, _<_}
 
 -- the "or" and the "and" of rows
 pub data Connective : Type 0 where
   disjunction conjunction : Connective
 
--- "the row is: ..": an "or" or an "and" of cells
+-- "the row is: ..": an "or" or an "and" of cells; the right-hand side of a boolean equation (document 000, Table 2)
 pub record Row (C : Type 0) : Type 0 where
   pub connective : Connective
   pub entries : List C
@@ -38,12 +39,17 @@ module _ {C : Type 0} where
   Each P (d ∷ ds) = P d × Each P ds
 
 module _ {C : Type 0} (rows : C → Row C) where
-  -- "the rows have one solution": the value at a cell. Any fuel above the cell's rank gives it
+  -- a solution: every cell that counts has the value that its row gives
+  pub record Solution (Counts : C → Type 0) (v : C → Bool) : Type 0 where
+    pub row : (c : C) → Counts c → v c ≡ joined (rows c .connective) v (rows c .entries)
+
+  -- the solution, by following chains of at most f rows; with f large enough it is the rows' one solution (OneSolution of specs/Solutions.antt)
   unfoldable pub value : ℕ → C → Bool
   value zero c = false
   value (suc f) c = joined (rows c .connective) (λ d. value f d) (rows c .entries)
 
-  -- "The cells needed for a cell are itself and .. the cells needed for each entry looked at"
+  -- "The cells needed for a cell are itself and .. the cells needed for each entry looked at": the variables that local resolution explores
+  -- (document 000, Figure 1)
   unfoldable pub need : ℕ → C → List C
   need zero c = []
   need (suc f) c = c ∷ looked (rows c .connective) (λ d. value f d) (λ d. need f d) (rows c .entries)

@@ -1,5 +1,6 @@
--- Tables of cells and queries on them, as document 01 has them under "Guard check, clearing, query". A table is a list of bytes.
-use mathlib.Core.Bool.{Bool, true, false, not, _&&_, _||_}
+-- Tables of cells and queries on them, as document 01 has them under "Guard check, clearing, query". A table is a list of bytes: the
+-- memo table of the local resolution (document 000, Figure 1).
+use mathlib.Core.Bool.{Bool, true, false, _&&_, _||_}
 use mathlib.Core.List.{List, [], _∷_}
 use mathlib.Core.Path.{_≡_}
 use Prim.Native.Nat.{ℕ, zero, suc, _+_, _<_}
@@ -15,9 +16,9 @@ byteAt t i = getD t i 0
 abbrev pub empty : ℕ → Bool
 empty b = eqb b 0
 
--- "A cell is filled when its byte is 1 or 2"; a table with a byte over 2 is refused
+-- "A cell is filled when its byte is 1 or 2."
 abbrev pub filled : ℕ → Bool
-filled b = not (empty b)
+filled b = eqb b 1 || eqb b 2
 
 -- "1 false, 2 true": the byte of a value
 abbrev pub byte : Bool → ℕ
@@ -39,7 +40,7 @@ rewritten zero f t = t
 rewritten (suc n) f [] = []
 rewritten (suc n) f (b ∷ bs) = f 0 b ∷ rewritten n (λ i. f (suc i)) bs
 
--- "It gives the solution .. and reports how many it filled as its visits": verdict, visits and the table it leaves
+-- "It gives the solution .. and reports how many it filled as its visits": verdict, visits (the variables newly decided) and the table it leaves
 pub data Result : Type 0 where
   out : Bool → ℕ → List ℕ → Result
 
@@ -75,7 +76,7 @@ constant false = record { connective = disjunction; entries = [] }
 constant true = record { connective = conjunction; entries = [] }
 
 module _ {C : Type 0} (index : C → ℕ) (rows : C → Row C) where
-  -- "a filled cell has, in place of its row, an empty "or" (false) or an empty "and" (true)"
+  -- "a filled cell has, in place of its row, an empty "or" (false) or an empty "and" (true)"; a byte over 2 is refused (21), so a cell is empty or filled
   unfoldable pub changed : List ℕ → C → Row C
   changed t c = elim (empty (byteAt t (index c))) [ true ↦ rows c | false ↦ constant (known (byteAt t (index c))) ]
 

@@ -1,0 +1,58 @@
+-- The rows of an accepted sheet without loop, as a table changes them, have one solution: no chain of them returns.
+use Prim.Native.Nat.{ℕ, _<_}
+use mathlib.Core.Path.{_≡_, sym, subst}
+use mathlib.Core.Logic.{_⊎_, inl, inr}
+use mathlib.Core.List.{List, [], _∷_, List·Memᴰ, List·Memᴰ·not-nil, List·Memᴰ·cases-cons}
+use native.Mathlib.Omega.{arith}
+use Rattle.sheet.specs.Contents.{planBody, actionsBody, ruleBody}
+use Rattle.sheet.specs.Reading.{sheetCheck}
+use Rattle.sheet.specs.declared.Check.the-variants.{Passed}
+use Rattle.judge.specs.Rows.{Row, Each, Falling}
+use Rattle.judge.specs.Loops.{Way, last, first}
+use Rattle.judge.specs.Cells.{Cell, CellOf, enough, indexOf}
+use Rattle.judge.specs.Querying.{NoLoop}
+use Rattle.judge.specs.Solutions.{rowsOf, OneSolution, RowsHaveOneSolution}
+use Rattle.judge.proofs.Fuel.{value-row, value-unique}
+use Rattle.judge.proofs.Changed.{changed-falling}
+use Rattle.judge.proofs.ValidCells.{Valid}
+use Rattle.judge.proofs.Ranks.{rank, rank-enough, falling}
+use Rattle.judge.proofs.Acyclic.{acyclic-settled}
+use Rattle.judge.proofs.DecideSteps.{bodies, counted, uncounted}
+
+each-at : {C : Type 0} (P : C → Type 0) (l : List C) → Each P l → (d : C) → List·Memᴰ d l → P d
+each-at P [] e d m = absurd (List·Memᴰ·not-nil m)
+each-at P (x ∷ l) e d m = go (List·Memᴰ·cases-cons m) (λ n. each-at P l (e .1) d n)
+  where
+    go : (d ≡ x) ⊎ List·Memᴰ d l → (List·Memᴰ d l → P d) → P d
+    go (inl q) rest = subst P (sym q) (e .0)
+    go (inr n) rest = rest n
+
+-- along a chain of rows the rank falls
+module _ {C : Type 0} (rows : C → Row C) {Counts : C → Type 0} {rank : C → ℕ} (fall : Falling rows Counts rank) where
+  abbrev Below : C → C → Type 0
+  Below c d = Counts d × (rank d < rank c)
+
+  pub way-falls : {c d : C} → Counts c → Way (λ e. rows e .entries) c d → Below c d
+  way-falls {c} {d} v (last m) = each-at (Below c) (rows c .entries) (fall .falls c v) d m
+  way-falls {c} v (first {u = e} m w) =
+      let h = each-at (Below c) (rows c .entries) (fall .falls c v) e m in
+      let g = way-falls (h .0) w in
+      (g .0, omega (arith, h .1, g .1))
+
+module _ (s t : List ℕ) (accepted : sheetCheck s ≡ Passed) (none : NoLoop s) where
+  valid : (c : Cell) → CellOf (planBody s) (ruleBody s) c → Valid (planBody s) (actionsBody s) (ruleBody s) c
+  valid c d = counted s accepted c d (acyclic-settled (planBody s) (bodies s accepted .plan-kept) none (c .state) (d .state-below))
+
+  falls : Falling (rowsOf s t) (Valid (planBody s) (actionsBody s) (ruleBody s)) (rank (planBody s) (ruleBody s))
+  falls = changed-falling (indexOf (ruleBody s)) _ (falling (bodies s accepted)) t
+
+  one : OneSolution s t
+  one = record {
+    no-return = λ c d w. absurd (omega (arith, way-falls (rowsOf s t) falls (valid c d) w .1));
+    is-solution = record { row = λ c d. value-row (rowsOf s t) falls enough c (valid c d) (rank-enough (bodies s accepted) c (valid c d)) };
+    only-solution = λ v solution c d.
+        value-unique (rowsOf s t) falls v (λ e w. solution .row e (uncounted s accepted e w)) enough c (valid c d) (rank-enough (bodies s accepted) c (valid c d));
+  }
+
+pub one-solution : RowsHaveOneSolution
+one-solution = one
