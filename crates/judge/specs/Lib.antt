@@ -10,6 +10,8 @@ pub mod Solutions
 -- "Lists of queries"
 pub mod Demand3
 pub mod Delivered
+-- "Sheets to try"
+pub mod SheetsToTry
 -- what private functions ask and promise; nobody has to believe it
 pub mod Solver
 pub mod Deciding

@@ -1,0 +1,108 @@
+-- Document 01, "Sheets to try": P1 to P11, "shown together, as one conjunction over the rows and Table 1".
+use Prim.Native.Nat.{ℕ, _^_, _<_}
+use mathlib.Core.Path.{_≡_}
+use mathlib.Core.Bool.{Bool, true, false}
+use mathlib.Core.List.{List, [], _∷_}
+use mathlib.Core.Logic.{_↔_}
+use lib.ListN.{length}
+use Rattle.sheet.specs.Contents.{planBody}
+use Rattle.sheet.specs.Plan.{stateCount}
+use Rattle.sheet.specs.Writing.{sheetOf}
+use Rattle.calculus.specs.Meeting.{bit}
+use Rattle.calculus.specs.Guard.{guardedRule}
+use Rattle.calculus.specs.Verdict.{Verdict}
+use Rattle.judge.specs.Clearing.{tableCleared}
+use Rattle.judge.specs.Querying.{queriedOf, QueryReport, reportedQuery}
+use Rattle.judge.specs.Demand3.{reports}
+
+-- ---- the sheets
+
+-- "The key sheet K has 74 bytes": with the kind of its first rule node
+abbrev pub keySheet : ℕ → List ℕ
+keySheet kind =
+    1 ∷ 3 ∷ 1 ∷ 17 ∷ 0 ∷ 10 ∷ 0 ∷ 2 ∷ 27 ∷ 0 ∷ 10 ∷ 0 ∷ 3 ∷ 37 ∷ 0 ∷ 37 ∷ 0 ∷
+    3 ∷ 3 ∷ 2 ∷ 0 ∷ 0 ∷ 1 ∷ 1 ∷ 1 ∷ 2 ∷ 2 ∷
+    3 ∷ 2 ∷ 0 ∷ 0 ∷ 2 ∷ 1 ∷ 0 ∷ 2 ∷ 2 ∷ 0 ∷
+    12 ∷ kind ∷ 0 ∷ 1 ∷ 2 ∷ 2 ∷ 4 ∷ 4 ∷ 2 ∷ 3 ∷ 1 ∷ 0 ∷ 0 ∷ 2 ∷ 5 ∷ 7 ∷ 4 ∷ 0 ∷ 6 ∷ 6 ∷ 0 ∷ 0 ∷ 7 ∷ 1 ∷ 8 ∷ 2 ∷ 9 ∷ 10 ∷ 6 ∷ 0 ∷ 0 ∷ 4 ∷ 1 ∷ 11 ∷ 6 ∷ 1 ∷ 0 ∷ []
+
+abbrev pub K : List ℕ
+K = keySheet 7
+
+abbrev pub K-greatest : List ℕ
+K-greatest = keySheet 8
+
+-- the sheet of a plan and a rule, with the action table 1, 1,0,0
+abbrev pub withTrue : List ℕ → List ℕ → List ℕ
+withTrue plan rule = sheetOf plan (1 ∷ 1 ∷ 0 ∷ 0 ∷ []) rule
+
+-- K's plan, and one state with a transition to itself
+abbrev pub chain : List ℕ
+chain = 3 ∷ 3 ∷ 2 ∷ 0 ∷ 0 ∷ 1 ∷ 1 ∷ 1 ∷ 2 ∷ 2 ∷ []
+
+abbrev pub selfLoop : List ℕ
+selfLoop = 1 ∷ 1 ∷ 1 ∷ 0 ∷ 0 ∷ 0 ∷ 0 ∷ []
+
+-- least X.X and greatest X.X
+abbrev pub least-self : List ℕ
+least-self = withTrue chain (2 ∷ 7 ∷ 0 ∷ 1 ∷ 6 ∷ 0 ∷ 0 ∷ [])
+
+abbrev pub greatest-self : List ℕ
+greatest-self = withTrue chain (2 ∷ 8 ∷ 0 ∷ 1 ∷ 6 ∷ 0 ∷ 0 ∷ [])
+
+-- "every" with true over F, and "some" with true over T
+abbrev pub every-false : List ℕ
+every-false = withTrue chain (2 ∷ 5 ∷ 0 ∷ 1 ∷ 0 ∷ 0 ∷ 0 ∷ [])
+
+abbrev pub some-true : List ℕ
+some-true = withTrue chain (2 ∷ 4 ∷ 0 ∷ 1 ∷ 1 ∷ 0 ∷ 0 ∷ [])
+
+-- least and greatest X of "every" true X, on the plan with a loop
+abbrev pub least-loop : List ℕ
+least-loop = withTrue selfLoop (3 ∷ 7 ∷ 0 ∷ 1 ∷ 5 ∷ 0 ∷ 2 ∷ 6 ∷ 0 ∷ 0 ∷ [])
+
+abbrev pub greatest-loop : List ℕ
+greatest-loop = withTrue selfLoop (3 ∷ 8 ∷ 0 ∷ 1 ∷ 5 ∷ 0 ∷ 2 ∷ 6 ∷ 0 ∷ 0 ∷ [])
+
+-- ---- what is said of them
+
+-- a query that is not refused reports number 0 and place 0, a verdict and visits
+abbrev pub judged : Bool → ℕ → QueryReport
+judged verdict visits = record { number = 0; place = 0; verdict = verdict; visits = visits }
+
+-- the queries of the states, one after the other, on each table of this many bytes that clearing cleared, report this
+abbrev pub Asked : List ℕ → ℕ → List ℕ → List QueryReport → Type 0
+Asked s size states answers = (t : List ℕ) → length t ≡ size → reports s (tableCleared s t) states ≡ answers
+
+-- "bit s is set exactly when state s is in the meaning of the rule by Table 1"; "Bits from S up are 0"
+pub record Word (s : List ℕ) (word : ℕ) : Type 0 where
+  pub bits : (state : ℕ) → state < stateCount (planBody s) → (bit word state ≡ true) ↔ Verdict s state
+  pub no-more : word < 2 ^ stateCount (planBody s)
+
+pub record SheetsToTry : Type 0 where
+  -- "The key sheet K has 74 bytes"
+  pub key-length : length K ≡ 74
+  -- "P1: K, table 108 bytes, state 0: true, 17 visits"
+  pub p1 : Asked K 108 (0 ∷ []) (judged true 17 ∷ [])
+  -- "P2: then state 1: true, 0."
+  pub p2 : Asked K 108 (0 ∷ 1 ∷ []) (judged true 17 ∷ judged true 0 ∷ [])
+  -- "P3: then state 2: false, 9."
+  pub p3 : Asked K 108 (0 ∷ 1 ∷ 2 ∷ []) (judged true 17 ∷ judged true 0 ∷ judged false 9 ∷ [])
+  -- "P4: K with its first rule node of kind 8, state 2, cleared: true, 8."
+  pub p4 : Asked K-greatest 108 (2 ∷ []) (judged true 8 ∷ [])
+  -- "P5: K, reference: 3."
+  pub p5 : Word K 3
+  -- "P6: K is unguarded."
+  pub p6 : guardedRule K ≡ false
+  -- "P7: least X.X: false, 2 visits.", at state 0
+  pub p7 : Asked least-self 12 (0 ∷ []) (judged false 2 ∷ [])
+  -- "P8: greatest X.X: true, 2.", at state 0
+  pub p8 : Asked greatest-self 12 (0 ∷ []) (judged true 2 ∷ [])
+  -- "P9: "every" with true over F, at an end state: true, 1."
+  pub p9 : Asked every-false 6 (2 ∷ []) (judged true 1 ∷ [])
+  -- "P10: "some" with true over T there: false, 1."
+  pub p10 : Asked some-true 6 (2 ∷ []) (judged false 1 ∷ [])
+  -- "P11: .. least X of "every" true X: reference 0; greatest: 1. A query: 12.", whatever the table
+  pub p11-least : Word least-loop 0
+  pub p11-greatest : Word greatest-loop 1
+  pub p11-query : (t : List ℕ) → reportedQuery (queriedOf least-loop 0 t) ≡ record { number = 12; place = 0; verdict = false; visits = 0 }
+  pub p11-query-greatest : (t : List ℕ) → reportedQuery (queriedOf greatest-loop 0 t) ≡ record { number = 12; place = 0; verdict = false; visits = 0 }
