@@ -8,10 +8,10 @@ use borrow.Author.Tests.{not-false}
 use Rattle.sheet.specs.Plan.{stateCount}
 use Rattle.sheet.specs.Rules.{PlanKept}
 use Rattle.sheet.proofs.Checks.{none-found}
-use Rattle.judge.specs.Loops.{settled, Way, last, first, Loop, ReachesLoop}
+use Rattle.judge.specs.Loops.{settled, Way, last, first, Loop}
 use Rattle.judge.specs.Cells.{successors}
 use Rattle.judge.specs.Querying.{loopless}
-use Rattle.judge.proofs.Settled.{settled-no-loop, settled-exactly}
+use Rattle.judge.proofs.Settled.{ReachesLoop, settled-no-loop, settled-exactly}
 use Rattle.judge.proofs.Successors.{successor-below}
 
 module _ (p : List ℕ) (kept : PlanKept p) where

@@ -5,8 +5,8 @@ use mathlib.Core.Path.{_≡_, refl, sym, ap}
 use Prim.Native.Nat.{ℕ}
 use lib.Dec.{eqb}
 use borrow.Author.Tests.{eqb-true, eq-eqb, ne-eqb}
-use Rattle.judge.specs.Rows.{Each}
 use Rattle.judge.specs.Tables.{among}
+use Rattle.judge.proofs.Systems.{Each}
 
 pub or-cases : (a b : Bool) {X : Type 0} → (a || b) ≡ true → (a ≡ true → X) → (b ≡ true → X) → X
 or-cases true b h x y = x refl

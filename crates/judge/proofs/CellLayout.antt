@@ -7,8 +7,8 @@ use lib.Arith.{digits-lt, digits-div, digits-mod}
 use Rattle.sheet.specs.Actions.{entryCount}
 use Rattle.sheet.specs.Rule.{nodeCount}
 use Rattle.sheet.specs.Rules.{BodiesKept}
-use Rattle.judge.specs.Tables.{Layout, Solvable}
 use Rattle.judge.specs.Cells.{Cell, rows, enough, marks, cellCount, indexOf, cellAt}
+use Rattle.judge.proofs.Systems.{Layout, Solvable}
 use Rattle.judge.proofs.BindersAbove.{above-counted}
 use Rattle.judge.proofs.ValidCells.{Marked, Valid}
 use Rattle.judge.proofs.Ranks.{rank, rank-enough, falling}

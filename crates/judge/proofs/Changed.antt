@@ -3,8 +3,9 @@ use mathlib.Core.Bool.{Bool, true, false}
 use mathlib.Core.List.{List}
 use mathlib.Core.Path.{_≡_, refl}
 use Prim.Native.Nat.{ℕ, _<_}
-use Rattle.judge.specs.Rows.{Row, joined, Each, Falling}
+use Rattle.judge.specs.Rows.{Row, joined}
 use Rattle.judge.specs.Tables.{byteAt, empty, filled, known, byte, constant, changed}
+use Rattle.judge.proofs.Systems.{Each, Falling}
 
 pub known-byte : (b : Bool) → known (byte b) ≡ b
 known-byte true = refl

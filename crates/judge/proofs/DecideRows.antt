@@ -18,13 +18,14 @@ use Rattle.sheet.specs.Reading.{sheetCheck}
 use Rattle.sheet.specs.declared.Check.the-variants.{Passed}
 use Rattle.calculus.specs.Decode.{planOf}
 use Rattle.calculus.proofs.Variables.{Above}
-use Rattle.judge.specs.Rows.{Connective, disjunction, conjunction, Row, deciding, decides, Each}
+use Rattle.judge.specs.Rows.{Connective, disjunction, conjunction, Row, deciding, decides}
 use Rattle.judge.specs.Tables.{Result, out, constant}
 use Rattle.judge.specs.Tables.{byte as valueByte}
 use Rattle.judge.specs.Solver.{walk}
 use Rattle.judge.specs.Cells.{Cell, cell, only, following, opened, outer, constantOf, rows, indexOf, marks}
 use Rattle.judge.specs.Clearing.{sizeOf}
 use Rattle.judge.specs.Deciding.{Prepared, Decidable, Following, NodeAt, resultAt, verdictIn, visitsIn, Known, Joined, Closed, Decided, connectiveOf, Followed}
+use Rattle.judge.proofs.Systems.{Each}
 use Rattle.judge.proofs.BindersAbove.{bound-above, above-below, above-counted}
 use Rattle.judge.proofs.ValidCells.{Valid}
 use Rattle.judge.proofs.Ranks.{rank, falling}

@@ -20,14 +20,15 @@ use Rattle.sheet.specs.declared.Check.the-variants.{Passed}
 use Rattle.sheet.proofs.Accepted.{accepted-iff}
 use Rattle.sheet.proofs.Checks.{both}
 use Rattle.calculus.specs.Decode.{planOf}
-use Rattle.judge.specs.Rows.{Connective, disjunction, conjunction, Row, deciding, decides, Each}
-use Rattle.judge.specs.Tables.{byteAt, empty, known, Result, out, visits, constant, Solvable}
+use Rattle.judge.specs.Rows.{Connective, disjunction, conjunction, Row, deciding, decides}
+use Rattle.judge.specs.Tables.{byteAt, empty, known, Result, out, visits, constant}
 use Rattle.judge.specs.Tables.{byte as valueByte}
 use Rattle.judge.specs.Solver.{closing, walk}
 use Rattle.judge.specs.Loops.{settled}
 use Rattle.judge.specs.Cells.{Cell, cell, only, following, opened, outer, constantOf, rows, enough, marks, cellCount, indexOf, cellAt, successors, MarkRight, CellOf}
 use Rattle.judge.specs.Clearing.{sizeOf}
 use Rattle.judge.specs.Deciding.{Prepared, Decidable, Following, resultAt, verdictIn, visitsIn, Known, Joined, Closed, Decided, connectiveOf, walkAt, Followed}
+use Rattle.judge.proofs.Systems.{Each, Solvable}
 use Rattle.judge.proofs.BindersAbove.{above-below, below-above, above-counted, below-tested, tested-below}
 use Rattle.judge.proofs.ValidCells.{Marked, Valid, valid-entries}
 use Rattle.judge.proofs.Ranks.{rank, falling}

@@ -19,12 +19,13 @@ use Rattle.calculus.specs.Guard.{guardedRule}
 use Rattle.calculus.specs.Exchange.{exchanged, exchangedRule}
 use Rattle.calculus.proofs.Exchange.{exchanged-plan, exchanged-actions, exchanged-rule, exchanged-kept}
 use Rattle.judge.specs.Rows.{value}
-use Rattle.judge.specs.Tables.{byteAt, filled, count, Solvable}
+use Rattle.judge.specs.Tables.{byteAt, filled, count}
 use Rattle.judge.specs.Loops.{settled, Loop}
 use Rattle.judge.specs.Cells.{Cell, cell, rows, enough, indexOf, cellAt, successors}
 use Rattle.judge.specs.Clearing.{sizeOf, tableCleared}
 use Rattle.judge.specs.Querying.{NoLoop, loopless, QueryReport}
 use Rattle.judge.specs.Demand3.{reports, tableAfter, Reported, visitsOf, queriedCells, Exchange, Demand3, DemandThree}
+use Rattle.judge.proofs.Systems.{Solvable}
 use Rattle.judge.proofs.Bytes.{count-le}
 use Rattle.judge.proofs.FromCleared.{Cleared, cleared}
 use Rattle.judge.proofs.ValidCells.{Valid}

@@ -27,9 +27,10 @@ use Rattle.calculus.proofs.Variables.{is-binder}
 use Rattle.calculus.proofs.Since.{at-pair, at-variable, at-binder}
 use Rattle.calculus.proofs.Alike.{Alike, alike-binder, alike-before, alike-low, alike-fixpoint}
 use Rattle.calculus.proofs.Exchange.{exchanged-alike, exchanged-rule-kept}
-use Rattle.judge.specs.Rows.{Row, Each, disjunction, conjunction, value, Falling}
+use Rattle.judge.specs.Rows.{Row, disjunction, conjunction, value}
 use Rattle.judge.specs.Loops.{settled}
 use Rattle.judge.specs.Cells.{Cell, cell, only, following, opened, outer, constantOf, rows, enough, successors}
+use Rattle.judge.proofs.Systems.{Each, Falling}
 use Rattle.judge.proofs.Fuel.{each-map, value-agree}
 use Rattle.judge.proofs.BindersAbove.{binders-ordered, binds-own}
 use Rattle.judge.proofs.Successors.{following-each}

@@ -5,8 +5,9 @@ use mathlib.Core.Logic.{_⊎_, inl, inr}
 use mathlib.Core.Path.{_≡_, refl, sym, ap, ap₂, subst, _∙_}
 use Prim.Native.Nat.{ℕ, zero, suc, _<_}
 use native.Mathlib.Omega.{arith}
-use Rattle.judge.specs.Rows.{Connective, Row, decides, joined, looked, Each}
-use Rattle.judge.specs.Tables.{byteAt, empty, known, byte, constant, changed, among, Solvable}
+use Rattle.judge.specs.Rows.{Connective, Row, decides, joined, looked}
+use Rattle.judge.specs.Tables.{byteAt, empty, known, byte, constant, changed, among}
+use Rattle.judge.proofs.Systems.{Each, Solvable}
 use Rattle.judge.proofs.Fuel.{each-map, value-row, value-unique}
 use Rattle.judge.proofs.Changed.{known-byte, empty-byte, joined-constant, changed-same, changed-filled}
 use Rattle.judge.proofs.Among.{false-if, among-append, among-none, among-tail}

@@ -9,8 +9,9 @@ use lib.Dec.{eqb, ltb}
 use lib.ListN.{length}
 use lib.Seq.{ext-getD}
 use borrow.Author.Tests.{ltb-true, ltb-false}
-use Rattle.judge.specs.Rows.{Row, Each}
-use Rattle.judge.specs.Tables.{byteAt, empty, byte, among, fills, filling, count, Solvable}
+use Rattle.judge.specs.Rows.{Row}
+use Rattle.judge.specs.Tables.{byteAt, empty, byte, among, fills, filling, count}
+use Rattle.judge.proofs.Systems.{Each, Solvable}
 use Rattle.judge.proofs.Changed.{empty-byte}
 use Rattle.judge.proofs.Among.{among-append, among-find, among-other}
 use Rattle.judge.proofs.Bytes.{bit, count-sum, rewritten-length, rewritten-below, rewritten-above}

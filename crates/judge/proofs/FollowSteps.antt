@@ -27,11 +27,11 @@ use Rattle.calculus.proofs.Nodes.{node-part}
 use Rattle.judge.specs.Rows.{Connective, disjunction, conjunction, deciding, decides}
 use Rattle.judge.specs.Tables.{Result, out}
 use Rattle.judge.specs.Solver.{after, walk}
-use Rattle.judge.specs.Loops.{settled, height}
+use Rattle.judge.specs.Loops.{settled}
 use Rattle.judge.specs.Cells.{Cell, cell, following, successors}
 use Rattle.judge.specs.Clearing.{sizeOf}
 use Rattle.judge.specs.Deciding.{firstFrom, Prepared, Following, Decidable, resultAt, verdictIn, visitsIn, Joined, Decided, connectiveOf, walkAt, Followed}
-use Rattle.judge.proofs.Height.{height-falls, successor-settled}
+use Rattle.judge.proofs.Height.{height, height-falls, successor-settled}
 use Rattle.judge.proofs.Outgoing.{first-bound, first-below, first-from, among, successor-at}
 use Rattle.judge.proofs.ValidCells.{Valid}
 use Rattle.judge.proofs.Ranks.{rank, level, level-few}

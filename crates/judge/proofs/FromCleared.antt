@@ -6,8 +6,9 @@ use Prim.Native.Nat.{ℕ, _≤_, _<_}
 use native.Mathlib.Omega.{arith}
 use lib.ListN.{length}
 use borrow.Author.Tests.{eq-eqb}
-use Rattle.judge.specs.Rows.{Row, Each, value, need}
-use Rattle.judge.specs.Tables.{byteAt, empty, filled, byte, changed, among, fills, count, queries, verdict, total, final, neededFor, Solvable}
+use Rattle.judge.specs.Rows.{Row, value, need}
+use Rattle.judge.specs.Tables.{byteAt, empty, filled, byte, changed, among, fills, count, verdict, neededFor}
+use Rattle.judge.proofs.Systems.{Each, queries, total, final, Solvable}
 use Rattle.judge.proofs.Fuel.{each-map, value-agree, need-agree}
 use Rattle.judge.proofs.Changed.{changed-empty, filled-byte}
 use Rattle.judge.proofs.Among.{among-append, among-find}

@@ -4,7 +4,8 @@ use mathlib.Core.List.{List, [], _∷_, _++_}
 use mathlib.Core.Path.{_≡_, refl, ap, _∙_}
 use Prim.Native.Nat.{ℕ, zero, suc, _<_}
 use native.Mathlib.Omega.{arith}
-use Rattle.judge.specs.Rows.{Connective, Row, decides, deciding, joined, looked, Each, value, need, Falling}
+use Rattle.judge.specs.Rows.{Connective, Row, decides, deciding, joined, looked, value, need}
+use Rattle.judge.proofs.Systems.{Each, Falling}
 
 module _ {C : Type 0} where
   pub each-map : {P Q : C → Type 0} → ((d : C) → P d → Q d) → (l : List C) → Each P l → Each Q l

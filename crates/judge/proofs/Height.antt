@@ -5,8 +5,17 @@ use mathlib.Core.Path.{_≡_, refl, sym, subst, _∙_}
 use Prim.Native.Nat.{ℕ, zero, suc, _≤_, _<_}
 use native.Mathlib.Nat.{le-of-suc-le-suc}
 use native.Mathlib.Omega.{arith}
-use Rattle.judge.specs.Loops.{settled, least, height}
+use Rattle.judge.specs.Loops.{settled}
 use Rattle.judge.proofs.Settled.{every-all, settled-next, settled-zero}
+
+-- the first number below n that passes a test, n if none does
+unfoldable pub least : ℕ → (ℕ → Bool) → ℕ
+least zero p = 0
+least (suc n) p = elim (p 0) [ true ↦ 0 | false ↦ suc (least n (λ i. p (suc i))) ]
+
+-- the least round that settles a state, of the rounds up to n
+unfoldable pub height : (ℕ → List ℕ) → ℕ → ℕ → ℕ
+height next n s = least n (λ r. settled next r s)
 
 least-here : (n : ℕ) (p : ℕ → Bool) → p 0 ≡ true → least (suc n) p ≡ 0
 unfolding least

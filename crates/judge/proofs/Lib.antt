@@ -1,3 +1,4 @@
+pub mod Systems
 pub mod Fuel
 pub mod Changed
 pub mod Among

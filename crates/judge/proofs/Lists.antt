@@ -4,8 +4,9 @@ use mathlib.Core.Path.{_≡_, refl, sym, ap₂, subst}
 use Prim.Native.Nat.{ℕ, _+_, _≤_}
 use native.Mathlib.Omega.{arith}
 use lib.ListN.{length}
-use Rattle.judge.specs.Rows.{Row, Each}
-use Rattle.judge.specs.Tables.{fills, count, query, queries, verdict, visits, table, total, final, Solvable}
+use Rattle.judge.specs.Rows.{Row}
+use Rattle.judge.specs.Tables.{fills, count, query, verdict, visits, table}
+use Rattle.judge.proofs.Systems.{Each, queries, total, final, Solvable}
 use Rattle.judge.proofs.Needs.{solution, needed}
 use Rattle.judge.proofs.Extension.{Extends, extension-value, extension-need}
 use Rattle.judge.proofs.Filling.{fill, fill-extends, fill-count, fill-fill, Whole}

@@ -6,8 +6,9 @@ use Prim.Native.Nat.{ℕ, zero, suc, _≤_, _<_}
 use native.Mathlib.Omega.{arith}
 use lib.Dec.{eqb}
 use borrow.Author.Tests.{eqb-true}
-use Rattle.judge.specs.Rows.{Connective, Row, decides, looked, Each, value, need}
-use Rattle.judge.specs.Tables.{among, Layout, Solvable, changed}
+use Rattle.judge.specs.Rows.{Connective, Row, decides, looked, value, need}
+use Rattle.judge.specs.Tables.{among, changed}
+use Rattle.judge.proofs.Systems.{Each, Layout, Solvable}
 use Rattle.judge.proofs.Fuel.{each-map, need-row}
 use Rattle.judge.proofs.Changed.{changed-falling}
 use Rattle.judge.proofs.Among.{or-cases, or-left, or-right, among-append, among-none}

@@ -5,9 +5,10 @@ use mathlib.Core.Path.{_≡_, refl, sym, ap, _∙_}
 use Prim.Native.Nat.{ℕ, suc, _+_, _<_, _≤_}
 use native.Mathlib.Omega.{arith}
 use lib.ListN.{length, set}
-use Rattle.judge.specs.Rows.{Connective, Row, deciding, decides, Each}
-use Rattle.judge.specs.Tables.{byteAt, empty, known, byte, Result, out, visits, count, fills, query, Solvable}
+use Rattle.judge.specs.Rows.{Connective, Row, deciding, decides}
+use Rattle.judge.specs.Tables.{byteAt, empty, known, byte, Result, out, visits, count, fills, query}
 use Rattle.judge.specs.Solver.{after, closing, walk, step, solve}
+use Rattle.judge.proofs.Systems.{Each, Solvable}
 use Rattle.judge.proofs.Fuel.{each-map}
 use Rattle.judge.proofs.Bytes.{count-le}
 use Rattle.judge.proofs.Solver.{step-empty, step-filled, walk-decided, walk-on}

@@ -11,11 +11,10 @@ use Rattle.sheet.specs.Rule.{nodeCount, binderNode, bindersAbove}
 use Rattle.sheet.specs.Rules.{Binds, RuleKept, BodiesKept}
 use Rattle.sheet.proofs.Binders.{binder-node}
 use Rattle.calculus.proofs.Variables.{Above}
-use Rattle.judge.specs.Rows.{Falling}
-use Rattle.judge.specs.Loops.{height}
 use Rattle.judge.specs.Cells.{Cell, cell, opened, outer, rows, enough, successors}
+use Rattle.judge.proofs.Systems.{Falling}
 use Rattle.judge.proofs.Fuel.{each-map}
-use Rattle.judge.proofs.Height.{height-falls, height-at-most}
+use Rattle.judge.proofs.Height.{height, height-falls, height-at-most}
 use Rattle.judge.proofs.BindersAbove.{above-node, above-nested, above-inside, depth-few, depth-le, depth-lt}
 use Rattle.judge.proofs.ValidCells.{Marked, Valid, Entry, child, next, body, outward, valid-entries}
 

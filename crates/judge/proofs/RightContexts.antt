@@ -23,9 +23,9 @@ use Rattle.calculus.proofs.Monotone.{Region, all-states, bind-same, bind-other}
 use Rattle.calculus.proofs.Locality.{Agree, closed-region, eval-local}
 use Rattle.calculus.proofs.PlanOf.{plan-wellformed}
 use Rattle.calculus.proofs.Variables.{Above, above-body, free-at}
-use Rattle.judge.specs.Loops.{settled, height}
+use Rattle.judge.specs.Loops.{settled}
 use Rattle.judge.specs.Cells.{opened, outer, successors}
-use Rattle.judge.proofs.Height.{successor-settled, height-falls}
+use Rattle.judge.proofs.Height.{height, successor-settled, height-falls}
 use Rattle.judge.proofs.BindersAbove.{above-smaller}
 use Rattle.judge.proofs.Successors.{target-among, successor-below}
 use Rattle.judge.proofs.ValidCells.{Marked}

@@ -8,7 +8,7 @@ use native.Mathlib.Omega.{arith}
 use lib.Dec.{eqb}
 use borrow.Author.Tests.{eqb-true}
 use Rattle.judge.specs.Tables.{count}
-use Rattle.judge.specs.Loops.{every, Way, last, first, Loop, ReachesLoop, settled}
+use Rattle.judge.specs.Loops.{every, Way, last, first, Loop, settled}
 use Rattle.judge.proofs.Bytes.{bit, count-le, count-one, count-sum}
 
 pub every-mem : (p : ℕ → Bool) (l : List ℕ) (t : ℕ) → every p l ≡ true → List·Memᴰ t l → p t ≡ true
@@ -46,6 +46,10 @@ count-adding n p s h out = omega (arith, count-one n s h, count-sum n (eqb s) p 
     go : (i : ℕ) (b : Bool) → eqb s i ≡ b → bit (eqb s i) + bit (p i) ≡ bit (eqb s i || p i)
     go i true e = rw (e, sym (ap p (eqb-true s i e)) ∙ out)
     go i false e = rw e (omega arith)
+
+-- a loop can be reached from s: s lies on one, or a way leads from s to one
+abbrev pub ReachesLoop : (ℕ → List ℕ) → ℕ → Type 0
+ReachesLoop next s = Loop next s ⊎ ((t : ℕ) × Way next s t × Loop next t)
 
 module _ (next : ℕ → List ℕ) where
   pub settled-next : (r s t : ℕ) → settled next (suc r) s ≡ true → List·Memᴰ t (next s) → settled next r t ≡ true

@@ -18,12 +18,12 @@ use Rattle.sheet.specs.declared.Refusal.the-variants.{NoSuchState, Loop, TableS
 use Rattle.sheet.specs.declared.Check.{Check}
 use Rattle.sheet.specs.declared.Check.the-variants.{Passed, Failed}
 use Rattle.sheet.proofs.Checks.{none-found, then-passed, require-passed}
-use Rattle.judge.specs.Rows.{Each}
-use Rattle.judge.specs.Tables.{byteAt, Result, verdict, visits, table, queries, total, final, Solvable}
+use Rattle.judge.specs.Tables.{byteAt, Result, verdict, visits, table}
 use Rattle.judge.specs.Cells.{Cell, cell, rows, enough, indexOf, cellAt}
 use Rattle.judge.specs.Clearing.{sizeOf}
 use Rattle.judge.specs.Querying.{loopless, bytesRight, queryCheck, resultOf, answerQueried, queriedOf, leftBy, tableQueried, QueryReport, reportedQuery}
 use Rattle.judge.specs.Demand3.{reports, tableAfter, Reported, SameAnswers, visitsOf, queriedCells}
+use Rattle.judge.proofs.Systems.{Each, queries, total, final, Solvable}
 use Rattle.judge.proofs.Solved.{Right, query-right}
 
 -- what an answer tells of a state: judged where the plan of S states has it, with the value of its cell, else refused by number 11

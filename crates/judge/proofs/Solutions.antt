@@ -7,11 +7,12 @@ use native.Mathlib.Omega.{arith}
 use Rattle.sheet.specs.Contents.{planBody, actionsBody, ruleBody}
 use Rattle.sheet.specs.Reading.{sheetCheck}
 use Rattle.sheet.specs.declared.Check.the-variants.{Passed}
-use Rattle.judge.specs.Rows.{Row, Each, Falling}
+use Rattle.judge.specs.Rows.{Row}
 use Rattle.judge.specs.Loops.{Way, last, first}
 use Rattle.judge.specs.Cells.{Cell, CellOf, enough, indexOf}
 use Rattle.judge.specs.Querying.{NoLoop}
 use Rattle.judge.specs.Solutions.{rowsOf, OneSolution, RowsHaveOneSolution}
+use Rattle.judge.proofs.Systems.{Each, Falling}
 use Rattle.judge.proofs.Fuel.{value-row, value-unique}
 use Rattle.judge.proofs.Changed.{changed-falling}
 use Rattle.judge.proofs.ValidCells.{Valid}

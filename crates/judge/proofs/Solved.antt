@@ -8,8 +8,8 @@ use lib.Dec.{eqb, ltb}
 use lib.ListN.{length, set, length-set}
 use lib.Seq.{ext-getD, getD-set-same, getD-set-other}
 use borrow.Author.Tests.{eqb-true, eqb-false, eq-eqb, ltb-true, ltb-false}
-use Rattle.judge.specs.Rows.{Row, joined, looked, Each, Falling}
-use Rattle.judge.specs.Tables.{byteAt, empty, known, byte, changed, among, fills, count, query, Result, out, table, Layout, Solvable}
+use Rattle.judge.specs.Rows.{Row, joined, looked}
+use Rattle.judge.specs.Tables.{byteAt, empty, known, byte, changed, among, fills, count, query, Result, out, table}
 use Rattle.judge.proofs.Fuel.{each-map, value-row}
 use Rattle.judge.proofs.Changed.{changed-empty, changed-filled, joined-constant}
 use Rattle.judge.proofs.Among.{false-if, among-head, among-none}
@@ -19,6 +19,7 @@ use Rattle.judge.proofs.Extension.{Extends, looked-constant}
 use Rattle.judge.proofs.Filling.{fills-empty, fills-true, fill, fill-length, fill-above, fill-old, fill-new, fill-same, fills-other, fill-extends, Whole}
 use Rattle.judge.proofs.Walks.{out-path, fill-none, need-whole, along, answer, query-answer, walked, walk-solves, Solves}
 use Rattle.judge.specs.Solver.{step, solve, closing}
+use Rattle.judge.proofs.Systems.{Each, Falling, Layout, Solvable}
 use Rattle.judge.proofs.Solver.{step-empty, step-filled}
 
 module _ {C : Type 0} {index : C → ℕ} {rows : C → Row C} {size : ℕ} {cellAt : ℕ → C} {Valid : C → Type 0} {rank : C → ℕ} {F : ℕ} (s : Solvable index rows size cellAt Valid rank F) where

@@ -14,8 +14,8 @@ use Rattle.calculus.specs.Plans.{Transition}
 use Rattle.calculus.specs.Meaning.{meets}
 use Rattle.calculus.specs.Decode.{planOf, actionFormula}
 use Rattle.calculus.proofs.PlanOf.{plan-wellformed}
-use Rattle.judge.specs.Rows.{Each}
 use Rattle.judge.specs.Cells.{Cell, cell, following, targets, successors}
+use Rattle.judge.proofs.Systems.{Each}
 
 pub target-among : (s : ℕ) {t : Transition} {ts : List Transition} → List·Memᴰ t ts → t .origin ≡ s → List·Memᴰ (t .target) (targets s ts)
 unfolding targets

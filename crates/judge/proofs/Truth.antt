@@ -25,9 +25,10 @@ use Rattle.calculus.proofs.Decide.{decide}
 use Rattle.calculus.proofs.PlanOf.{plan-wellformed}
 use Rattle.calculus.proofs.Nodes.{node-part, false-node, true-node, or-node, and-node, some-node, every-node, variable-node, least-node, greatest-node}
 use Rattle.calculus.proofs.Variables.{Above, not-binder, is-binder, above-next, above-second}
-use Rattle.judge.specs.Rows.{Row, joined, Each, value}
-use Rattle.judge.specs.Loops.{settled, height}
+use Rattle.judge.specs.Rows.{Row, joined, value}
+use Rattle.judge.specs.Loops.{settled}
 use Rattle.judge.specs.Cells.{Cell, cell, only, opened, outer, constantOf, rows, enough, successors}
+use Rattle.judge.proofs.Systems.{Each}
 use Rattle.judge.proofs.BindersAbove.{above-node, bound-above, binds-own}
 use Rattle.judge.proofs.Successors.{target-among}
 use Rattle.judge.proofs.CellRows.{false-row, true-row, or-row, and-row, some-row, every-row, variable-row, binder-row}
@@ -35,6 +36,7 @@ use Rattle.judge.proofs.ValidCells.{Valid, root-valid, next, entry-vali
 use Rattle.judge.proofs.Ranks.{rank, rank-enough, entry-falls, falling}
 use Rattle.judge.proofs.RowValues.{constant-joined, only-joined, or-joined, and-joined, some-joined, every-joined}
 use Rattle.judge.proofs.RightContexts.{ownSets, own-fixed, Lower, lower-successor, Right, own-right, root-right, right-child, right-lower, right-body}
+use Rattle.judge.proofs.Height.{height}
 
 iff-same : (x y : Bool) → (x ≡ true) ↔ (y ≡ true) → x ≡ y
 iff-same true y h = sym (h .0 refl)

@@ -17,11 +17,11 @@ use Rattle.sheet.specs.declared.Refusal.the-variants.{TableShort, TableByte}
 use Rattle.sheet.specs.declared.Check.{Check}
 use Rattle.sheet.specs.declared.Check.the-variants.{Passed, Failed}
 use Rattle.sheet.specs.Rules.{PlanKept}
-use Rattle.judge.specs.Loops.{settled, Way, Loop}
+use Rattle.judge.specs.Loops.{settled, Loop}
 use Rattle.judge.specs.Cells.{successors}
 use Rattle.judge.specs.Clearing.{sizeOf}
 use Rattle.judge.specs.Querying.{HasLoop, loopless, bytesRight, queryCheck, resultOf, reportQuery, queryReportOf, TwelveExactly}
-use Rattle.judge.proofs.Settled.{settled-or-loop}
+use Rattle.judge.proofs.Settled.{ReachesLoop, settled-or-loop}
 use Rattle.judge.proofs.Acyclic.{way-below, loopless-settled, loopless-acyclic}
 use Rattle.judge.proofs.Successors.{successor-below}
 use Rattle.judge.proofs.DecideSteps.{bodies}
@@ -45,7 +45,7 @@ module _ (p : List ℕ) (kept : PlanKept p) where
           → (state : ℕ) × (state < stateCount p) × Loop (successors p) state
       go (inl r) = reached (settled-or-loop (successors p) (stateCount p) (λ u l t m. successor-below kept u t m) (r .0) (r .1) (r .2))
         where
-          reached : Loop (successors p) (r .0) ⊎ ((t : ℕ) × Way (successors p) (r .0) t × Loop (successors p) t) → (state : ℕ) × (state < stateCount p) × Loop (successors p) state
+          reached : ReachesLoop (successors p) (r .0) → (state : ℕ) × (state < stateCount p) × Loop (successors p) state
           reached (inl w) = (r .0, r .1, w)
           reached (inr w) = (w .0, way-below p kept (w .1), w .2)
       go (inr all) = absurd (true≢false (sym (loopless-settled p kept .1 all) ∙ e))

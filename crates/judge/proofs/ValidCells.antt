@@ -16,10 +16,11 @@ use Rattle.sheet.proofs.Parts.{ranged, part-after}
 use Rattle.calculus.specs.Decode.{planOf}
 use Rattle.calculus.proofs.Nodes.{node-part}
 use Rattle.calculus.proofs.Variables.{Above, not-binder, is-binder, above-next, above-second}
-use Rattle.judge.specs.Rows.{Row, Each}
+use Rattle.judge.specs.Rows.{Row}
 use Rattle.judge.specs.Tables.{constant}
 use Rattle.judge.specs.Loops.{settled}
 use Rattle.judge.specs.Cells.{Cell, cell, only, following, opened, outer, constantOf, rows, successors}
+use Rattle.judge.proofs.Systems.{Each}
 use Rattle.judge.proofs.Fuel.{each-map}
 use Rattle.judge.proofs.Height.{successor-settled}
 use Rattle.judge.proofs.BindersAbove.{above-node, bound-above, above-inside, above-own, binds-own}

@@ -5,14 +5,15 @@ use mathlib.Core.Path.{_≡_, refl, sym, ap, _∙_}
 use Prim.Native.Nat.{ℕ, _≤_}
 use lib.ListN.{length}
 use lib.Seq.{ext-getD}
-use Rattle.judge.specs.Rows.{Connective, Row, deciding, decides, joined, looked, Each}
-use Rattle.judge.specs.Tables.{byteAt, empty, among, fills, count, query, Result, out, Solvable}
+use Rattle.judge.specs.Rows.{Connective, Row, deciding, decides, joined, looked}
+use Rattle.judge.specs.Tables.{byteAt, empty, among, fills, count, query, Result, out}
 use Rattle.judge.proofs.Fuel.{each-map, joined-cong}
 use Rattle.judge.proofs.Bytes.{count-none}
 use Rattle.judge.proofs.Needs.{closed-nil, closed-append, need-closed, need-each, each-append, looked-all, changed-solvable, solution, needed}
 use Rattle.judge.proofs.Extension.{Extends, extension-value, extension-need, looked-among}
 use Rattle.judge.proofs.Filling.{fill, fill-length, fill-old, fill-extends, fill-count, fill-fill, Whole}
 use Rattle.judge.specs.Solver.{walk, after}
+use Rattle.judge.proofs.Systems.{Each, Solvable}
 use Rattle.judge.proofs.Solver.{walk-decided, walk-on}
 
 beq-true : (a b : Bool) → Bool·beq a b ≡ true → a ≡ b

@@ -1,7 +1,6 @@
 -- Loops of a plan, as document 01 has them under "Lists of queries". The successors of state s are `next s`; states are numbers below a bound.
 use mathlib.Core.Bool.{Bool, true, false, _&&_}
 use mathlib.Core.List.{List, [], _∷_, List·Memᴰ}
-use mathlib.Core.Logic.{_⊎_}
 use Prim.Native.Nat.{ℕ, zero, suc}
 
 -- a test passed by every state of a list
@@ -19,20 +18,7 @@ module _ (next : ℕ → List ℕ) where
   abbrev pub Loop : ℕ → Type 0
   Loop s = Way next s s
 
-  -- a loop can be reached from s: s lies on one, or a way leads from s to one
-  abbrev pub ReachesLoop : ℕ → Type 0
-  ReachesLoop s = Loop s ⊎ ((t : ℕ) × Way next s t × Loop t)
-
   -- round 0 settles no state; round r + 1 settles a state whose every successor is settled in round r
   unfoldable pub settled : ℕ → ℕ → Bool
   settled zero s = false
   settled (suc r) s = every (λ t. settled r t) (next s)
-
--- the first number below n that passes a test, n if none does
-unfoldable pub least : ℕ → (ℕ → Bool) → ℕ
-least zero p = 0
-least (suc n) p = elim (p 0) [ true ↦ 0 | false ↦ suc (least n (λ i. p (suc i))) ]
-
--- the least round that settles a state, of the rounds up to n
-unfoldable pub height : (ℕ → List ℕ) → ℕ → ℕ → ℕ
-height next n s = least n (λ r. settled next r s)

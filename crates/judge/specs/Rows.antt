@@ -2,7 +2,7 @@
 use mathlib.Core.Bool.{Bool, true, false, not, Bool·beq}
 use mathlib.Core.List.{List, [], _∷_, _++_}
 use mathlib.Core.Path.{_≡_}
-use Prim.Native.Nat.{ℕ, zero, suc, _<_}
+use Prim.Native.Nat.{ℕ, zero, suc}
 
 -- the "or" and the "and" of rows
 pub data Connective : Type 0 where
@@ -33,11 +33,6 @@ module _ {C : Type 0} where
   looked k v n [] = []
   looked k v n (d ∷ ds) = n d ++ elim (decides k (v d)) [ true ↦ [] | false ↦ looked k v n ds ]
 
-  -- what holds of every cell of a list
-  abbrev pub Each : (C → Type 0) → List C → Type 0
-  Each P [] = Unit {0}
-  Each P (d ∷ ds) = P d × Each P ds
-
 module _ {C : Type 0} (rows : C → Row C) where
   -- a solution: every cell that counts has the value that its row gives
   pub record Solution (Counts : C → Type 0) (v : C → Bool) : Type 0 where
@@ -53,7 +48,3 @@ module _ {C : Type 0} (rows : C → Row C) where
   unfoldable pub need : ℕ → C → List C
   need zero c = []
   need (suc f) c = c ∷ looked (rows c .connective) (λ d. value f d) (λ d. need f d) (rows c .entries)
-
-  -- "no chain of rows returns to its cell": among the cells that count, each entry has a smaller rank than the cell of its row
-  pub record Falling (Valid : C → Type 0) (rank : C → ℕ) : Type 0 where
-    pub falls : (c : C) → Valid c → Each (λ d. Valid d × (rank d < rank c)) (rows c .entries)

@@ -2,11 +2,10 @@
 -- memo table of the local resolution (document 000, Figure 1).
 use mathlib.Core.Bool.{Bool, true, false, _&&_, _||_}
 use mathlib.Core.List.{List, [], _∷_}
-use mathlib.Core.Path.{_≡_}
-use Prim.Native.Nat.{ℕ, zero, suc, _+_, _<_}
+use Prim.Native.Nat.{ℕ, zero, suc}
 use lib.Dec.{eqb}
 use lib.ListN.{getD}
-use Rattle.judge.specs.Rows.{Row, disjunction, conjunction, value, need, Falling}
+use Rattle.judge.specs.Rows.{Row, disjunction, conjunction, value, need}
 
 -- "cell (m, n, s) is byte ..": the byte at a position
 abbrev pub byteAt : List ℕ → ℕ → ℕ
@@ -53,17 +52,6 @@ visits (out v n t) = n
 abbrev pub table : Result → List ℕ
 table (out v n t) = t
 
--- where cells lie: each has a position below the size, and is the cell at that position
-pub record Layout {C : Type 0} (Valid : C → Type 0) (index : C → ℕ) (size : ℕ) (cellAt : ℕ → C) : Type 0 where
-  pub inside : (c : C) → Valid c → index c < size
-  pub back : (c : C) → Valid c → cellAt (index c) ≡ c
-
--- all that solving asks of rows and cells: ranks fall, cells are laid out, and the fuel is above every rank
-pub record Solvable {C : Type 0} (index : C → ℕ) (rows : C → Row C) (size : ℕ) (cellAt : ℕ → C) (Valid : C → Type 0) (rank : C → ℕ) (fuel : ℕ) : Type 0 where
-  pub falling : Falling rows Valid rank
-  pub layout : Layout Valid index size cellAt
-  pub fuelled : (c : C) → Valid c → rank c < fuel
-
 module _ {C : Type 0} (index : C → ℕ) where
   -- the cell at position i is in a list
   unfoldable pub among : List C → ℕ → Bool
@@ -96,23 +84,6 @@ module _ {C : Type 0} (index : C → ℕ) (size : ℕ) (cellAt : ℕ → C) wher
       let r : C → Row C = changed index rows t in
       let l : List C = need r fuel c in
       out (value r fuel c) (count size (fills index t l)) (filling (value r fuel) l t)
-
-  -- "A list is any number of queries .. with one sheet and one table": what each gives, the table handed on
-  unfoldable pub queries : (C → Row C) → ℕ → List ℕ → List C → List Result
-  queries rows fuel t [] = []
-  queries rows fuel t (c ∷ cs) =
-      let r : Result = query rows fuel t c in
-      r ∷ queries rows fuel (table r) cs
-
--- the sum of the visits of a list of queries
-unfoldable pub total : List Result → ℕ
-total [] = 0
-total (r ∷ rs) = visits r + total rs
-
--- the table that a list of queries leaves
-unfoldable pub final : List ℕ → List Result → List ℕ
-final t [] = t
-final t (r ∷ rs) = final (table r) rs
 
 module _ {C : Type 0} (index : C → ℕ) (rows : C → Row C) (fuel : ℕ) where
   -- "Needed for some queries is each cell needed for (0, 0, s), s the state of at least one of them; need and solution are here by the rows as written"
