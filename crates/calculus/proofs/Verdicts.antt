@@ -11,7 +11,7 @@ use Rattle.calculus.specs.Plans.{Wellformed}
 use Rattle.calculus.specs.Meaning.{Holds}
 use Rattle.calculus.specs.Decode.{planOf, formula}
 use Rattle.calculus.specs.Verdict.{emptyContext, Verdict}
-use Rattle.calculus.proofs.Eval.{eval}
+use Rattle.calculus.specs.Eval.{eval}
 use Rattle.calculus.proofs.Monotone.{all-states}
 use Rattle.calculus.proofs.Decide.{decide}
 use Rattle.calculus.proofs.Locality.{local-free}

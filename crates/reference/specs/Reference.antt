@@ -18,7 +18,7 @@ use Rattle.sheet.specs.declared.Refusal.the-variants.{TooManyStates}
 use Rattle.calculus.specs.Decode.{planOf, formula}
 use Rattle.calculus.specs.Verdict.{emptyContext, Verdict}
 use Rattle.calculus.specs.Meeting.{bit}
-use Rattle.calculus.proofs.Eval.{eval}
+use Rattle.calculus.specs.Eval.{eval}
 use Rattle.reference.specs.declared.Reference.{Reference}
 use Rattle.reference.specs.declared.Reference.the-variants.{Word, Refused}
 
