@@ -1,4 +1,4 @@
--- Document 01: "Table 1's verdict at s is true exactly when s is in the meaning of the rule."
+-- Document 01: "Table 1's verdict at s is true exactly when s is in the meaning of the rule".
 use Prim.Native.Nat.{ℕ}
 use mathlib.Core.Bool.{Bool, false}
 use mathlib.Core.List.{List}
@@ -6,7 +6,8 @@ use Rattle.sheet.specs.Contents.{planBody, actionsBody, ruleBody}
 use Rattle.calculus.specs.Meaning.{Holds}
 use Rattle.calculus.specs.Decode.{planOf, formula}
 
--- the context that gives every variable the empty set; the rule of a sheet has no free variable
+-- the context that gives every variable the empty set; the rule of a sheet has no free variable: "A variable node stands below its
+-- binder."
 abbrev pub emptyContext : ℕ → ℕ → Bool
 emptyContext X t = false
 
