@@ -20,7 +20,7 @@ use Rattle.sheet.specs.declared.Refusal.the-variants.{TooManyStates}
 use Rattle.sheet.proofs.Accepted.{accepted-iff}
 use Rattle.calculus.specs.Meeting.{bit}
 use Rattle.calculus.specs.Verdict.{Verdict}
-use Rattle.calculus.proofs.Verdicts.{verdict-decided}
+use Rattle.calculus.proofs.Verdicts.{verdict-below, verdict-decided}
 use Rattle.reference.specs.declared.Reference.the-variants.{Word, Refused}
 use Rattle.reference.specs.Reference.{inMeaning, meaningWord, answerReference, referenceOf, Referring, reportedReference, reportReference, referringOf, ByTable1}
 use Rattle.reference.proofs.Words.{word-bit, word-high}
@@ -53,14 +53,14 @@ module _ (s : List ℕ) where
       go (Failed x) = refl
 
   -- the bits of the promised word
-  pub word-bits : sheetCheck s ≡ Passed → (t : ℕ) → (bit (meaningWord s) t ≡ true) ↔ ((t < stateCount (planBody s)) × Verdict s t)
+  pub word-bits : sheetCheck s ≡ Passed → (t : ℕ) → (bit (meaningWord s) t ≡ true) ↔ Verdict s t
   unfolding meaningWord inMeaning
-  word-bits e t = (to, λ h. word-bit (stateCount (planBody s)) (inMeaning s) t (h .0) ∙ verdict-decided (accepted-iff s .0 e) t (h .0) .0 (h .1))
+  word-bits e t = (to, λ v. let l = verdict-below s t v in word-bit (stateCount (planBody s)) (inMeaning s) t l ∙ verdict-decided (accepted-iff s .0 e) t l .0 v)
     where
-      to : bit (meaningWord s) t ≡ true → (t < stateCount (planBody s)) × Verdict s t
+      to : bit (meaningWord s) t ≡ true → Verdict s t
       to b =
           elim (decLt t (stateCount (planBody s))) [
-            | yes l ↦ (l, verdict-decided (accepted-iff s .0 e) t l .1 (sym (word-bit (stateCount (planBody s)) (inMeaning s) t l) ∙ b))
+            | yes l ↦ verdict-decided (accepted-iff s .0 e) t l .1 (sym (word-bit (stateCount (planBody s)) (inMeaning s) t l) ∙ b)
             | no h ↦ absurd (false≢true (sym (word-high (stateCount (planBody s)) (inMeaning s) t (omega arith)) ∙ b))
           ]
 

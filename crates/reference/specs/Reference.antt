@@ -71,7 +71,7 @@ referringOf s = reportReference s (sheetCheck s)
 pub record MeaningWord (s : List ℕ) (r : Reference) : Type 0 where
   pub word : ℕ
   pub is : r ≡ Word word
-  pub bits : (t : ℕ) → (bit word t ≡ true) ↔ ((t < stateCount (planBody s)) × Verdict s t)
+  pub bits : (t : ℕ) → (bit word t ≡ true) ↔ Verdict s t
 
 -- for every list of bytes: an accepted sheet of at most 64 states has such an answer, any other its refusal
 pub record ByTable1 (s : List ℕ) (r : Reference) : Type 0 where
