@@ -68,6 +68,7 @@ referringOf s = reportReference s (sheetCheck s)
 
 -- The same against Table 1 itself: the answer is a word, and "bit s is set exactly when state s is in the meaning of the rule by Table 1 (least: the
 -- intersection of all sets that their own image lies inside; greatest: the union of all sets that lie inside their own image). Bits from S up are 0."
+-- Verdict holds of no number from S up.
 pub record MeaningWord (s : List ℕ) (r : Reference) : Type 0 where
   pub word : ℕ
   pub is : r ≡ Word word
