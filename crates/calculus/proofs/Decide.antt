@@ -6,7 +6,7 @@ use mathlib.Core.Logic.{_↔_, ⊎-map, Iff·trans, Iff·symm}
 use Rattle.calculus.specs.Formulas.{Formula, never, always, disj, conj, some, every, var, least, greatest}
 use Rattle.calculus.specs.Plans.{Plan, Wellformed}
 use Rattle.calculus.specs.Meaning.{Holds, bind}
-use Rattle.calculus.proofs.Eval.{eval}
+use Rattle.calculus.specs.Eval.{eval}
 use Rattle.calculus.proofs.Modal.{or-true, some-true, every-true}
 use Rattle.calculus.proofs.Iterates.{least-closed, least-within, greatest-open, within-greatest}
 

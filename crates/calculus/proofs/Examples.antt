@@ -6,8 +6,7 @@ use Rattle.calculus.specs.Formulas.{Formula, only, anything, except, alw
 use Rattle.calculus.specs.Plans.{Plan}
 use Rattle.calculus.specs.Meaning.{meets}
 use Rattle.calculus.specs.Guarded.{guarded, guardedIn}
-use Rattle.calculus.proofs.Sets.{none}
-use Rattle.calculus.proofs.Eval.{eval, rounds, tabulate, table, any, leaves}
+use Rattle.calculus.specs.Eval.{emptySet, eval, rounds, tabulate, valuesBelow, anyTransition, departs}
 
 -- On the plan 0 -1→ 1 -2→ 2, the states from which steps by action 1 lead to one by action 2.
 abbrev chain : Plan
@@ -16,8 +15,8 @@ chain = record { states = 3; actions = 3; transitions = record { origin = 0; act
 abbrev reaches : Formula
 reaches = least 0 (disj (some (only 2) always) (some (only 1) (var 0)))
 
-pub chain-reaches : table 3 (eval chain reaches (λ X. none)) ≡ true ∷ true ∷ false ∷ []
-unfolding eval rounds tabulate table any leaves meets
+pub chain-reaches : valuesBelow 3 (eval chain reaches (λ X. emptySet)) ≡ true ∷ true ∷ false ∷ []
+unfolding eval rounds tabulate valuesBelow anyTransition departs meets
 chain-reaches = refl
 
 -- "Not" is taken among the actions: 5 is none of three.

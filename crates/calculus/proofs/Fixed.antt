@@ -6,7 +6,7 @@ use mathlib.Core.Logic.{_↔_}
 use Rattle.calculus.specs.Formulas.{Formula, least, greatest}
 use Rattle.calculus.specs.Plans.{Plan, Wellformed}
 use Rattle.calculus.specs.Meaning.{Holds, bind}
-use Rattle.calculus.proofs.Eval.{eval}
+use Rattle.calculus.specs.Eval.{eval}
 use Rattle.calculus.proofs.Iterates.{least-closed, least-open, greatest-closed, greatest-open}
 use Rattle.calculus.proofs.Decide.{holds-iff}
 

@@ -6,8 +6,9 @@ use mathlib.Core.Bool.{Bool}
 use Rattle.calculus.specs.Formulas.{Formula, least, greatest}
 use Rattle.calculus.specs.Plans.{Plan, Wellformed}
 use Rattle.calculus.specs.Meaning.{bind}
-use Rattle.calculus.proofs.Sets.{Within, Below, none, all, within-refl, within-trans, none-within, within-all, settles, settles-down}
-use Rattle.calculus.proofs.Eval.{eval, rounds, tabulate-at}
+use Rattle.calculus.proofs.Sets.{Within, Below, within-refl, within-trans, empty-within, within-full, settles, settles-down}
+use Rattle.calculus.specs.Eval.{emptySet, fullSet, eval, rounds}
+use Rattle.calculus.proofs.Eval.{tabulate-at}
 use Rattle.calculus.proofs.Monotone.{all-states, bind-ordered, eval-ordered}
 
 module _ (S : ℕ) (F : (ℕ → Bool) → ℕ → Bool) where
@@ -24,37 +25,37 @@ module _ (S : ℕ) (F : (ℕ → Bool) → ℕ → Bool) (monotone : (U W : ℕ 
   step : (U : ℕ → Bool) (m n : ℕ) → Within (Below S) (rounds S F m U) (rounds S F n U) → Within (Below S) (rounds S F (suc m) U) (rounds S F (suc n) U)
   step U m n h = within-trans (round-out S F m U) (within-trans (monotone _ _ h) (round-in S F n U))
 
-  rise : (n : ℕ) → Within (Below S) (rounds S F n none) (rounds S F (suc n) none)
+  rise : (n : ℕ) → Within (Below S) (rounds S F n emptySet) (rounds S F (suc n) emptySet)
   unfolding rounds
-  rise zero = none-within
-  rise (suc n) = step none n (suc n) (rise n)
+  rise zero = empty-within
+  rise (suc n) = step emptySet n (suc n) (rise n)
 
-  fall : (n : ℕ) → Within (Below S) (rounds S F (suc n) all) (rounds S F n all)
+  fall : (n : ℕ) → Within (Below S) (rounds S F (suc n) fullSet) (rounds S F n fullSet)
   unfolding rounds
-  fall zero = within-all
-  fall (suc n) = step all (suc n) n (fall n)
+  fall zero = within-full
+  fall (suc n) = step fullSet (suc n) n (fall n)
 
-  lowest-closed : Within (Below S) (F (rounds S F S none)) (rounds S F S none)
-  lowest-closed = within-trans (round-in S F S none) (settles S (λ n. rounds S F n none) (record { rise = rise; still = λ n h. step none (suc n) n h }))
+  lowest-closed : Within (Below S) (F (rounds S F S emptySet)) (rounds S F S emptySet)
+  lowest-closed = within-trans (round-in S F S emptySet) (settles S (λ n. rounds S F n emptySet) (record { rise = rise; still = λ n h. step emptySet (suc n) n h }))
 
-  lowest-open : Within (Below S) (rounds S F S none) (F (rounds S F S none))
-  lowest-open = within-trans (rise S) (round-out S F S none)
+  lowest-open : Within (Below S) (rounds S F S emptySet) (F (rounds S F S emptySet))
+  lowest-open = within-trans (rise S) (round-out S F S emptySet)
 
-  highest-open : Within (Below S) (rounds S F S all) (F (rounds S F S all))
-  highest-open = within-trans (settles-down S (λ n. rounds S F n all) (record { fall = fall; still = λ n h. step all n (suc n) h })) (round-out S F S all)
+  highest-open : Within (Below S) (rounds S F S fullSet) (F (rounds S F S fullSet))
+  highest-open = within-trans (settles-down S (λ n. rounds S F n fullSet) (record { fall = fall; still = λ n h. step fullSet n (suc n) h })) (round-out S F S fullSet)
 
-  highest-closed : Within (Below S) (F (rounds S F S all)) (rounds S F S all)
-  highest-closed = within-trans (round-in S F S all) (fall S)
+  highest-closed : Within (Below S) (F (rounds S F S fullSet)) (rounds S F S fullSet)
+  highest-closed = within-trans (round-in S F S fullSet) (fall S)
 
-  rounds-below : {W : ℕ → Bool} → Within (Below S) (F W) W → (n : ℕ) → Within (Below S) (rounds S F n none) W
+  rounds-below : {W : ℕ → Bool} → Within (Below S) (F W) W → (n : ℕ) → Within (Below S) (rounds S F n emptySet) W
   unfolding rounds
-  rounds-below h zero = none-within
-  rounds-below h (suc n) = within-trans (round-out S F n none) (within-trans (monotone _ _ (rounds-below h n)) h)
+  rounds-below h zero = empty-within
+  rounds-below h (suc n) = within-trans (round-out S F n emptySet) (within-trans (monotone _ _ (rounds-below h n)) h)
 
-  rounds-above : {W : ℕ → Bool} → Within (Below S) W (F W) → (n : ℕ) → Within (Below S) W (rounds S F n all)
+  rounds-above : {W : ℕ → Bool} → Within (Below S) W (F W) → (n : ℕ) → Within (Below S) W (rounds S F n fullSet)
   unfolding rounds
-  rounds-above h zero = within-all
-  rounds-above h (suc n) = within-trans h (within-trans (monotone _ _ (rounds-above h n)) (round-in S F n all))
+  rounds-above h zero = within-full
+  rounds-above h (suc n) = within-trans h (within-trans (monotone _ _ (rounds-above h n)) (round-in S F n fullSet))
 
 -- What the body φ makes of a set U for X.
 abbrev pub image : Plan → ℕ → Formula → (ℕ → ℕ → Bool) → (ℕ → Bool) → ℕ → Bool

@@ -13,7 +13,7 @@ use Rattle.calculus.specs.Verdict.{emptyContext}
 use Rattle.calculus.specs.Exchange.{exchangedFrom, exchanged}
 use Rattle.calculus.specs.Meeting.{maskUpTo, meetingMask}
 use Rattle.calculus.specs.Guard.{guardedRule}
-use Rattle.calculus.proofs.Eval.{eval, rounds, tabulate, table, any, leaves}
+use Rattle.calculus.specs.Eval.{eval, rounds, tabulate, valuesBelow, anyTransition, departs}
 
 abbrev pub K : List ℕ
 K =
@@ -28,8 +28,8 @@ pub K-rule : formula (actionsBody K) (ruleBody K) 0 ≡ least 0 (disj (some (onl
 unfolding formulaWithin actionWithin
 K-rule = refl
 
-pub K-states : table 3 (eval (planOf (planBody K)) (formula (actionsBody K) (ruleBody K) 0) emptyContext) ≡ true ∷ true ∷ false ∷ []
-unfolding eval rounds tabulate table any leaves meets transitionsFrom formulaWithin actionWithin
+pub K-states : valuesBelow 3 (eval (planOf (planBody K)) (formula (actionsBody K) (ruleBody K) 0) emptyContext) ≡ true ∷ true ∷ false ∷ []
+unfolding eval rounds tabulate valuesBelow anyTransition departs meets transitionsFrom formulaWithin actionWithin
 K-states = refl
 
 pub K-unguarded : guardedRule K ≡ false

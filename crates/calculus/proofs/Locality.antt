@@ -8,7 +8,7 @@ use Rattle.calculus.specs.Formulas.{Formula}
 use Rattle.calculus.specs.Plans.{Transition, Plan, Wellformed}
 use Rattle.calculus.specs.Meaning.{Holds}
 use Rattle.calculus.proofs.Sets.{Within, Below}
-use Rattle.calculus.proofs.Eval.{eval}
+use Rattle.calculus.specs.Eval.{eval}
 use Rattle.calculus.proofs.Monotone.{free, Region, Ordered, all-states, eval-ordered}
 use Rattle.calculus.proofs.Decide.{holds-eval, eval-holds}
 

@@ -9,30 +9,30 @@ use borrow.Author.Tests.{eqb-true, eq-eqb, not-true}
 use Rattle.calculus.specs.Formulas.{ActionFormula}
 use Rattle.calculus.specs.Plans.{Transition, Plan}
 use Rattle.calculus.specs.Meaning.{meets}
-use Rattle.calculus.proofs.Eval.{any, leaves}
+use Rattle.calculus.specs.Eval.{anyTransition, departs}
 
 pub or-true : (a b : Bool) → ((a || b) ≡ true) ↔ ((a ≡ true) ⊎ (b ≡ true))
 or-true true b = (λ e. inl refl, λ _. refl)
 or-true false b = (λ e. inr e, elim [ inl e ↦ absurd (false≢true e) | inr e ↦ e ])
 
-any-found : (p : Transition → Bool) (ts : List Transition) → any p ts ≡ true → (t : Transition) × List·Memᴰ t ts × (p t ≡ true)
-unfolding any
+any-found : (p : Transition → Bool) (ts : List Transition) → anyTransition p ts ≡ true → (t : Transition) × List·Memᴰ t ts × (p t ≡ true)
+unfolding anyTransition
 any-found p [] e = absurd (false≢true e)
 any-found p (x ∷ ts) e = go (p x) refl e (any-found p ts)
   where
-    go : (b : Bool) → p x ≡ b → (b || any p ts) ≡ true → (any p ts ≡ true → (t : Transition) × List·Memᴰ t ts × (p t ≡ true))
+    go : (b : Bool) → p x ≡ b → (b || anyTransition p ts) ≡ true → (anyTransition p ts ≡ true → (t : Transition) × List·Memᴰ t ts × (p t ≡ true))
         → (t : Transition) × List·Memᴰ t (x ∷ ts) × (p t ≡ true)
     go true q e k = (x, List·Memᴰ·head refl, q)
     go false q e k = let r = k e in (r .0, List·Memᴰ·tail (r .1), r .2)
 
-any-of : (p : Transition → Bool) {ts : List Transition} {t : Transition} → List·Memᴰ t ts → p t ≡ true → any p ts ≡ true
-unfolding any
+any-of : (p : Transition → Bool) {ts : List Transition} {t : Transition} → List·Memᴰ t ts → p t ≡ true → anyTransition p ts ≡ true
+unfolding anyTransition
 any-of p (List·Memᴰ·head {x = x} e) q = or-true (p x) _ .1 (inl (subst (λ (y : Transition). p y ≡ true) e q))
 any-of p (List·Memᴰ·tail {x = x} m) q = or-true (p x) _ .1 (inr (any-of p m q))
 
-leaves-true : (P : Plan) (α : ActionFormula) (s : ℕ) (t : Transition) → (leaves P α s t ≡ true) ↔ ((t .origin ≡ s) × (meets (P .actions) α (t .action) ≡ true))
-unfolding leaves
-leaves-true P α s t = (
+departs-true : (P : Plan) (α : ActionFormula) (s : ℕ) (t : Transition) → (departs P α s t ≡ true) ↔ ((t .origin ≡ s) × (meets (P .actions) α (t .action) ≡ true))
+unfolding departs
+departs-true P α s t = (
   λ e. let k = and-eq-true-iff (eqb (t .origin) s) (meets (P .actions) α (t .action)) .0 e in (eqb-true _ _ (k .0), k .1),
   λ k. and-eq-true-iff (eqb (t .origin) s) (meets (P .actions) α (t .action)) .1 (eq-eqb _ _ (k .0), k .1),
 )
@@ -45,27 +45,27 @@ module _ (P : Plan) (α : ActionFormula) (s : ℕ) where
   abbrev pub Everywhere : (ℕ → Type 0) → Type 0
   Everywhere Q = (t : Transition) → List·Memᴰ t (P .transitions) → t .origin ≡ s → meets (P .actions) α (t .action) ≡ true → Q (t .target)
 
-  pub some-true : (U : ℕ → Bool) → (any (λ t. leaves P α s t && U (t .target)) (P .transitions) ≡ true) ↔ Somewhere (λ x. U x ≡ true)
+  pub some-true : (U : ℕ → Bool) → (anyTransition (λ t. departs P α s t && U (t .target)) (P .transitions) ≡ true) ↔ Somewhere (λ x. U x ≡ true)
   some-true U = (to, of)
     where
       step : Transition → Bool
-      step t = leaves P α s t && U (t .target)
+      step t = departs P α s t && U (t .target)
 
-      to : any step (P .transitions) ≡ true → Somewhere (λ x. U x ≡ true)
+      to : anyTransition step (P .transitions) ≡ true → Somewhere (λ x. U x ≡ true)
       to e =
           let r = any-found step (P .transitions) e in
-          let k = and-eq-true-iff (leaves P α s (r .0)) (U (r .0 .target)) .0 (r .2) in
-          let l = leaves-true P α s (r .0) .0 (k .0) in
+          let k = and-eq-true-iff (departs P α s (r .0)) (U (r .0 .target)) .0 (r .2) in
+          let l = departs-true P α s (r .0) .0 (k .0) in
           (r .0, r .1, l .0, l .1, k .1)
 
-      of : Somewhere (λ x. U x ≡ true) → any step (P .transitions) ≡ true
-      of r = any-of step (r .1) (and-eq-true-iff (leaves P α s (r .0)) (U (r .0 .target)) .1 (leaves-true P α s (r .0) .1 (r .2, r .3), r .4))
+      of : Somewhere (λ x. U x ≡ true) → anyTransition step (P .transitions) ≡ true
+      of r = any-of step (r .1) (and-eq-true-iff (departs P α s (r .0)) (U (r .0 .target)) .1 (departs-true P α s (r .0) .1 (r .2, r .3), r .4))
 
-  pub every-true : (U : ℕ → Bool) → (not (any (λ t. leaves P α s t && not (U (t .target))) (P .transitions)) ≡ true) ↔ Everywhere (λ x. U x ≡ true)
+  pub every-true : (U : ℕ → Bool) → (not (anyTransition (λ t. departs P α s t && not (U (t .target))) (P .transitions)) ≡ true) ↔ Everywhere (λ x. U x ≡ true)
   every-true U = (to, of)
     where
       escapes : Bool
-      escapes = any (λ t. leaves P α s t && not (U (t .target))) (P .transitions)
+      escapes = anyTransition (λ t. departs P α s t && not (U (t .target))) (P .transitions)
 
       to : not escapes ≡ true → Everywhere (λ x. U x ≡ true)
       to e t m o k = go (U (t .target)) refl

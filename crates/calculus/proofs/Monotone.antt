@@ -10,7 +10,8 @@ use Rattle.calculus.specs.Formulas.{Formula, never, always, disj, conj, 
 use Rattle.calculus.specs.Plans.{Transition, Plan, Wellformed}
 use Rattle.calculus.specs.Meaning.{bind}
 use Rattle.calculus.proofs.Sets.{Within, Below, within-refl}
-use Rattle.calculus.proofs.Eval.{eval, rounds, tabulate-at}
+use Rattle.calculus.specs.Eval.{eval, rounds}
+use Rattle.calculus.proofs.Eval.{tabulate-at}
 use Rattle.calculus.proofs.Modal.{or-true, some-true, every-true}
 
 -- Definition 1: the variable Y is free in φ.

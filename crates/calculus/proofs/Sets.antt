@@ -5,6 +5,7 @@ use mathlib.Core.Bool.{Bool, true, false, not, cond, false≢true}
 use mathlib.Core.Logic.{_⊎_, inl, inr, ⊎-elim}
 use native.Mathlib.Omega.{arith}
 use native.Mathlib.Nat.{eq-or-lt-of-le, le-of-suc-le-suc}
+use Rattle.calculus.specs.Eval.{emptySet, fullSet}
 
 -- On R, U is contained in W.
 pub record Within (R : ℕ → Type 0) (U W : ℕ → Bool) : Type 0 where
@@ -13,23 +14,17 @@ pub record Within (R : ℕ → Type 0) (U W : ℕ → Bool) : Type 0 where
 abbrev pub Below : ℕ → ℕ → Type 0
 Below S t = t < S
 
-abbrev pub none : ℕ → Bool
-none t = false
-
-abbrev pub all : ℕ → Bool
-all t = true
-
 pub within-refl : {R : ℕ → Type 0} {U : ℕ → Bool} → Within R U U
 within-refl = record { at = λ t r u. u }
 
 pub within-trans : {R : ℕ → Type 0} {U W Y : ℕ → Bool} → Within R U W → Within R W Y → Within R U Y
 within-trans h k = record { at = λ t r u. k .at t r (h .at t r u) }
 
-pub none-within : {R : ℕ → Type 0} {U : ℕ → Bool} → Within R none U
-none-within = record { at = λ t r u. absurd (false≢true u) }
+pub empty-within : {R : ℕ → Type 0} {U : ℕ → Bool} → Within R emptySet U
+empty-within = record { at = λ t r u. absurd (false≢true u) }
 
-pub within-all : {R : ℕ → Type 0} {U : ℕ → Bool} → Within R U all
-within-all = record { at = λ t r u. refl }
+pub within-full : {R : ℕ → Type 0} {U : ℕ → Bool} → Within R U fullSet
+within-full = record { at = λ t r u. refl }
 
 -- The complement turns inclusion round.
 abbrev pub complement : (ℕ → Bool) → ℕ → Bool

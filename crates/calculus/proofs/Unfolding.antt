@@ -10,7 +10,7 @@ use Rattle.calculus.specs.Formulas.{Formula, least, greatest}
 use Rattle.calculus.specs.Plans.{Plan, Wellformed}
 use Rattle.calculus.specs.Meaning.{Holds, bind}
 use Rattle.calculus.proofs.Sets.{Within, Below}
-use Rattle.calculus.proofs.Eval.{eval}
+use Rattle.calculus.specs.Eval.{eval}
 use Rattle.calculus.proofs.Modal.{or-true}
 use Rattle.calculus.proofs.Iterates.{image, image-monotone, least-closed, least-within, greatest-open, within-greatest}
 use Rattle.calculus.proofs.Decide.{holds-iff}

@@ -12,6 +12,7 @@ use Rattle.calculus.specs.Plans.{Transition, Plan}
 
 -- ---- document 01, "Kind 1, plan": S, A, "then T transitions of three bytes: from, action, to"
 
+-- transition i
 abbrev pub transitionOf : List ℕ → ℕ → Transition
 transitionOf p i = record { origin = origin p i; action = label p i; target = target p i }
 
@@ -20,20 +21,23 @@ unfoldable pub transitionsFrom : List ℕ → ℕ → ℕ → List Transition
 transitionsFrom p zero i = []
 transitionsFrom p (suc count) i = transitionOf p i ∷ transitionsFrom p count (suc i)
 
+-- the plan of a plan body
 abbrev pub planOf : List ℕ → Plan
 planOf p = record { states = stateCount p; actions = actionCount p; transitions = transitionsFrom p (transitionCount p) 0 }
 
 -- ---- document 01, "Kind 2, action formulas"
 
--- "Operands of 3, 4, 5 are entry numbers below their own": entry x as an operand, if it is below; any other number stands for no formula
+-- "Operands of 3, 4, 5 are entry numbers below their own": entry x as an operand, if it is below; any other number, which no accepted sheet has,
+-- stands for F
 abbrev pub operand : (ℕ → ActionFormula) → ℕ → Bool → ActionFormula
 operand go x true = go x
 operand go x false = nothing
 
--- "Kinds: 0 false, 1 true, 2 action x, 3 x or y, 4 x and y, 5 not x"
+-- "Kinds: 0 false, 1 true, 2 action x (x below A), 3 x or y, 4 x and y, 5 not x."
 pub data EntrySort : Type 0 where
   falseEntry trueEntry actionEntry orEntry andEntry notEntry unknownEntry : EntrySort
 
+-- the kind of an entry by its number
 abbrev pub entrySort : ℕ → EntrySort
 entrySort k =
     pick (eqb k 0) falseEntry
@@ -48,6 +52,7 @@ entryFormula go a e actionEntry = only (entryX a e)
 entryFormula go a e orEntry = either (operand go (entryX a e) (ltb (entryX a e) e)) (operand go (entryY a e) (ltb (entryY a e) e))
 entryFormula go a e andEntry = both (operand go (entryX a e) (ltb (entryX a e) e)) (operand go (entryY a e) (ltb (entryY a e) e))
 entryFormula go a e notEntry = except (operand go (entryX a e) (ltb (entryX a e) e))
+-- no accepted sheet has another kind
 entryFormula go a e unknownEntry = nothing
 
 -- the formula of entry e; depth is above e
@@ -55,15 +60,18 @@ unfoldable pub actionWithin : ℕ → List ℕ → ℕ → ActionFormula
 actionWithin zero a e = nothing
 actionWithin (suc depth) a e = entryFormula (actionWithin depth a) a e (entrySort (entryKind a e))
 
+-- the formula of entry e of the action table a
 abbrev pub actionFormula : List ℕ → ℕ → ActionFormula
 actionFormula a e = actionWithin (suc e) a e
 
 -- ---- document 01, "Kind 3, rule"
 
--- "0 F, 1 T, 2 or, 3 and, 4 some (diamond), 5 every (box), 6 variable x, 7 least, 8 greatest fixed point"
+-- "0 F, 1 T, 2 or, 3 and (children x, y), 4 some (diamond), 5 every (box) (x an action entry below the count, y the child), 6 variable x, 7 least, 8
+-- greatest fixed point (x the variable bound, y the child)."
 pub data NodeSort : Type 0 where
   falseNode trueNode orNode andNode someNode everyNode variableNode leastNode greatestNode unknownNode : NodeSort
 
+-- the kind of a node by its number
 abbrev pub nodeSort : ℕ → NodeSort
 nodeSort k =
     pick (eqb k 0) falseNode
@@ -74,8 +82,8 @@ nodeSort k =
     (pick (eqb k 5) everyNode
     (pick (eqb k 6) variableNode (pick (eqb k 7) leastNode (pick (eqb k 8) greatestNode unknownNode))))))))
 
--- The formula of node n by its sort, where go gives the formulas of nodes: "or, and (children x, y)", some and every "(x an action entry, y the
--- child)", least and greatest "(x the variable bound, y the child)".
+-- The formula of node n by its sort, where go gives the formulas of nodes: or and and "(children x, y)", some and every "(x an action entry
+-- below the count, y the child)", least and greatest "(x the variable bound, y the child)".
 abbrev pub nodeFormula : (ℕ → Formula) → List ℕ → List ℕ → ℕ → NodeSort → Formula
 nodeFormula go a r n falseNode = never
 nodeFormula go a r n trueNode = always
@@ -86,6 +94,7 @@ nodeFormula go a r n everyNode = every (actionFormula a (nodeX r n)) (go (nodeY 
 nodeFormula go a r n variableNode = var (nodeX r n)
 nodeFormula go a r n leastNode = least (nodeX r n) (go (nodeY r n))
 nodeFormula go a r n greatestNode = greatest (nodeX r n) (go (nodeY r n))
+-- no accepted sheet has another kind
 nodeFormula go a r n unknownNode = never
 
 -- the formula at node n; depth is at least the number of nodes of its part
@@ -93,6 +102,6 @@ unfoldable pub formulaWithin : ℕ → List ℕ → List ℕ → ℕ → Formula
 formulaWithin zero a r n = never
 formulaWithin (suc depth) a r n = nodeFormula (formulaWithin depth a r) a r n (nodeSort (nodeKind r n))
 
--- the formula at node n of the rule r over the action formulas a; a rule has at most 64 nodes
+-- the formula at node n of the rule r over the action formulas a; "Count N (1 byte, 1 to 64)"
 abbrev pub formula : List ℕ → List ℕ → ℕ → Formula
 formula a r n = formulaWithin 64 a r n

@@ -20,6 +20,7 @@ unfoldable pub exchangedFrom : (ℕ → Bool) → ℕ → List ℕ → List ℕ
 exchangedFrom choice i [] = []
 exchangedFrom choice i (b ∷ bs) = exchangedByte choice i b ∷ exchangedFrom choice (suc i) bs
 
+-- the whole rule body
 abbrev pub exchangedRule : (ℕ → Bool) → List ℕ → List ℕ
 exchangedRule choice r = exchangedFrom choice 0 r
 

@@ -12,9 +12,11 @@ use Rattle.calculus.specs.Decode.{formula}
 use Rattle.calculus.specs.declared.Guard.{Guard}
 use Rattle.calculus.specs.declared.Guard.the-variants.{Answered, Refused}
 
+-- "the rule is guarded by Definition 2"
 abbrev pub guardedRule : List ℕ → Bool
 guardedRule s = guarded (formula (actionsBody s) (ruleBody s) 0)
 
+-- yes or no for an accepted sheet, else its refusal
 abbrev pub answerGuard : List ℕ → Check → Guard
 answerGuard s Passed = Answered (guardedRule s)
 answerGuard s (Failed r) = Refused r
@@ -23,13 +25,14 @@ answerGuard s (Failed r) = Refused r
 unfoldable pub guardOf : List ℕ → Guard
 guardOf s = answerGuard s (sheetCheck s)
 
--- What each answer reports: number, place and the guard answer. "A refused call gives verdict and guard answer false. An accepted call gives number 0
+-- What each answer reports: number, place and the guard answer. "A refused call gives verdict and guard answer false"; "An accepted call gives number 0
 -- and place 0."
 pub record Guarding : Type 0 where
   pub number : ℕ
   pub place : ℕ
   pub answer : Bool
 
+-- number, place and guard answer of each answer
 abbrev pub reportedGuard : Guard → Guarding
 reportedGuard (Answered b) = record { number = 0; place = 0; answer = b }
 reportedGuard (Refused r) = record { number = numberOf r; place = placeOf r; answer = false }

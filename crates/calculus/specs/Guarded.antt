@@ -4,6 +4,7 @@ use mathlib.Core.Bool.{Bool, true, false, not, _&&_, _||_}
 use lib.Dec.{eqb}
 use Rattle.calculus.specs.Formulas.{Formula, never, always, disj, conj, some, every, var, least, greatest}
 
+-- g(φ, 𝒳) of Definition 2, by its lines
 unfoldable pub guardedIn : Formula → (ℕ → Bool) → Bool
 -- F, T: true
 guardedIn never 𝒳 = true

@@ -8,3 +8,4 @@ pub mod Exchange
 pub mod Meeting
 pub mod Guard
 pub mod Carried
+pub mod Eval

@@ -20,7 +20,7 @@ meets A (only b) a = eqb a b
 meets A (either α β) a = meets A α a || meets A β a
 -- α₁ and α₂: the intersection
 meets A (both α β) a = meets A α a && meets A β a
--- not α: A without α
+-- not α: A without α; '"Not" is taken among the A actions.'
 meets A (except α) a = ltb a A && not (meets A α a)
 
 -- ρ[U/X]: as ρ, but U for X.
@@ -30,21 +30,19 @@ bind ρ X U Y = cond (eqb Y X) U (ρ Y)
 -- The meaning of a state formula: `Holds P φ ρ s` says that the state s of P is in the meaning of φ in the context ρ.
 -- It is read at states only, the numbers below S: a set U is one of states, whatever it holds from S on.
 unfoldable pub Holds : Plan → Formula → (ℕ → ℕ → Bool) → ℕ → Type 0
--- F: no state
+-- F, T: "F no state, T all"
 Holds P never ρ s = ⊥
--- T: S
 Holds P always ρ s = Unit {0}
--- φ₁ or φ₂: the union
+-- φ₁ or φ₂, φ₁ and φ₂: "or the union, and the intersection"
 Holds P (disj φ ψ) ρ s = Holds P φ ρ s ⊎ Holds P ψ ρ s
--- φ₁ and φ₂: the intersection
 Holds P (conj φ ψ) ρ s = Holds P φ ρ s × Holds P ψ ρ s
--- ⟨α⟩ φ: some transition from s, by an action in α, leads into φ
+-- ⟨α⟩ φ: "some the states with a transition whose action meets the formula into the child's meaning"
 Holds P (some α φ) ρ s = (t : Transition) × List·Memᴰ t (P .transitions) × (t .origin ≡ s) × (meets (P .actions) α (t .action) ≡ true) × Holds P φ ρ (t .target)
--- [α] φ: every transition from s, by an action in α, leads into φ
+-- [α] φ: "every those whose every such transition leads into it"
 Holds P (every α φ) ρ s = (t : Transition) → List·Memᴰ t (P .transitions) → t .origin ≡ s → meets (P .actions) α (t .action) ≡ true → Holds P φ ρ (t .target)
--- X: ρ(X)
+-- X: "a variable its set", ρ(X)
 Holds P (var X) ρ s = ρ X s ≡ true
--- μ X. φ: the intersection of the sets U that contain the meaning of φ in ρ[U/X]
+-- μ X. φ: "the intersection of all sets that their own image lies inside": the image of U is the meaning of φ in ρ[U/X]
 Holds P (least X φ) ρ s = (U : ℕ → Bool) → ((t : ℕ) → t < P .states → Holds P φ (bind ρ X U) t → U t ≡ true) → U s ≡ true
--- ν X. φ: the union of the sets U that the meaning of φ in ρ[U/X] contains
+-- ν X. φ: "the union of all sets that lie inside their own image"
 Holds P (greatest X φ) ρ s = (U : ℕ → Bool) × ((t : ℕ) → t < P .states → U t ≡ true → Holds P φ (bind ρ X U) t) × (U s ≡ true)

@@ -17,6 +17,6 @@ unfoldable pub maskUpTo : ℕ → ℕ → List ℕ → ℕ → ℕ
 maskUpTo zero A a action = 0
 maskUpTo (suc e) A a action = maskUpTo e A a action + pick (meets A (actionFormula a e) action) (2 ^ e) 0
 
--- for all entries; "Count (1 byte, 0 to 32)"
+-- for all entries of an accepted sheet, "Count (1 byte, 0 to 32)"; of any other body for the first 32 at most
 unfoldable pub meetingMask : ℕ → List ℕ → ℕ → ℕ
 meetingMask A a action = maskUpTo (min (entryCount a) 32) A a action

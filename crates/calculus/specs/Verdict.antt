@@ -1,15 +1,17 @@
--- Document 01: "Table 1's verdict at s is true exactly when s is in the meaning of the rule."
-use Prim.Native.Nat.{ℕ}
+-- Document 01: "Table 1's verdict at s is true exactly when s is in the meaning of the rule".
+use Prim.Native.Nat.{ℕ, _<_}
 use mathlib.Core.Bool.{Bool, false}
 use mathlib.Core.List.{List}
 use Rattle.sheet.specs.Contents.{planBody, actionsBody, ruleBody}
+use Rattle.sheet.specs.Plan.{stateCount}
 use Rattle.calculus.specs.Meaning.{Holds}
 use Rattle.calculus.specs.Decode.{planOf, formula}
 
--- the context that gives every variable the empty set; the rule of a sheet has no free variable
+-- the context that gives every variable the empty set; the rule of a sheet has no free variable: "A variable node stands below its
+-- binder."
 abbrev pub emptyContext : ℕ → ℕ → Bool
 emptyContext X t = false
 
--- Table 1's verdict of the sheet s at a state
+-- Table 1's verdict of the sheet s: the number is that of a state, and the state is in the meaning of the rule
 unfoldable pub Verdict : List ℕ → ℕ → Type 0
-Verdict s state = Holds (planOf (planBody s)) (formula (actionsBody s) (ruleBody s) 0) emptyContext state
+Verdict s state = (state < stateCount (planBody s)) × Holds (planOf (planBody s)) (formula (actionsBody s) (ruleBody s) 0) emptyContext state

@@ -20,7 +20,7 @@ use Rattle.calculus.specs.Meaning.{meets}
 use Rattle.calculus.specs.Meeting.{bit}
 use Rattle.calculus.specs.Guarded.{guardedIn, guarded}
 use Rattle.calculus.specs.Verdict.{emptyContext, Verdict}
-use Rattle.calculus.proofs.Eval.{eval, rounds, tabulate, table, any, leaves}
+use Rattle.calculus.specs.Eval.{eval, rounds, tabulate, valuesBelow as table, anyTransition as any, departs as leaves}
 use Rattle.calculus.proofs.Decide.{decide}
 use Rattle.calculus.proofs.PlanOf.{plan-wellformed}
 use Rattle.judge.specs.Rows.{joined, looked, value, need}

@@ -18,7 +18,7 @@ use Rattle.sheet.proofs.Binders.{binder-node}
 use Rattle.calculus.specs.Meaning.{bind}
 use Rattle.calculus.specs.Decode.{planOf, formula}
 use Rattle.calculus.specs.Verdict.{emptyContext}
-use Rattle.calculus.proofs.Eval.{eval}
+use Rattle.calculus.specs.Eval.{eval}
 use Rattle.calculus.proofs.Monotone.{Region, all-states, bind-same, bind-other}
 use Rattle.calculus.proofs.Locality.{Agree, closed-region, eval-local}
 use Rattle.calculus.proofs.PlanOf.{plan-wellformed}

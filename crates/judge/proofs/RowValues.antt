@@ -10,7 +10,7 @@ use Rattle.sheet.proofs.Checks.{both}
 use Rattle.calculus.specs.Plans.{Transition, Plan}
 use Rattle.calculus.specs.Meaning.{meets}
 use Rattle.calculus.specs.Decode.{actionFormula}
-use Rattle.calculus.proofs.Eval.{any, leaves}
+use Rattle.calculus.specs.Eval.{anyTransition as any, departs as leaves}
 use Rattle.judge.specs.Rows.{disjunction, conjunction, decides, joined}
 use Rattle.judge.specs.Tables.{constant}
 use Rattle.judge.specs.Cells.{Cell, cell, following}

@@ -19,7 +19,7 @@ use Rattle.calculus.specs.Plans.{Transition}
 use Rattle.calculus.specs.Meaning.{Holds, bind}
 use Rattle.calculus.specs.Decode.{planOf, formula}
 use Rattle.calculus.specs.Verdict.{emptyContext}
-use Rattle.calculus.proofs.Eval.{eval}
+use Rattle.calculus.specs.Eval.{eval}
 use Rattle.calculus.proofs.Unfolding.{remove, insert, eval-least-unfold, eval-greatest-unfold}
 use Rattle.calculus.proofs.Decide.{decide}
 use Rattle.calculus.proofs.PlanOf.{plan-wellformed}

@@ -1,5 +1,4 @@
--- Demand 2, over the promise of the reference judge: on every accepted sheet of at most 64 states the word's bits are the states in the meaning of the
--- rule by Table 1, and a refusal gives the word 0.
+-- Demand 2 shown, over the promise of the reference judge. The statement is Demand2 of specs/Demand2.antt.
 use Prim.Native.Nat.{ℕ, _<_, _≤_}
 use mathlib.Core.Path.{_≡_, refl, sym, ap, _∙_}
 use mathlib.Core.Bool.{Bool, true, false, false≢true}
@@ -20,9 +19,10 @@ use Rattle.sheet.specs.declared.Refusal.the-variants.{TooManyStates}
 use Rattle.sheet.proofs.Accepted.{accepted-iff}
 use Rattle.calculus.specs.Meeting.{bit}
 use Rattle.calculus.specs.Verdict.{Verdict}
-use Rattle.calculus.proofs.Verdicts.{verdict-decided}
+use Rattle.calculus.proofs.Verdicts.{verdict-below, verdict-decided}
 use Rattle.reference.specs.declared.Reference.the-variants.{Word, Refused}
 use Rattle.reference.specs.Reference.{inMeaning, meaningWord, answerReference, referenceOf, Referring, reportedReference, reportReference, referringOf, ByTable1}
+use Rattle.reference.specs.Demand2.{Demand2}
 use Rattle.reference.proofs.Words.{word-bit, word-high}
 
 module _ (s : List ℕ) where
@@ -53,14 +53,14 @@ module _ (s : List ℕ) where
       go (Failed x) = refl
 
   -- the bits of the promised word
-  pub word-bits : sheetCheck s ≡ Passed → (t : ℕ) → (bit (meaningWord s) t ≡ true) ↔ ((t < stateCount (planBody s)) × Verdict s t)
+  pub word-bits : sheetCheck s ≡ Passed → (t : ℕ) → (bit (meaningWord s) t ≡ true) ↔ Verdict s t
   unfolding meaningWord inMeaning
-  word-bits e t = (to, λ h. word-bit (stateCount (planBody s)) (inMeaning s) t (h .0) ∙ verdict-decided (accepted-iff s .0 e) t (h .0) .0 (h .1))
+  word-bits e t = (to, λ v. let l = verdict-below s t v in word-bit (stateCount (planBody s)) (inMeaning s) t l ∙ verdict-decided (accepted-iff s .0 e) t l .0 v)
     where
-      to : bit (meaningWord s) t ≡ true → (t < stateCount (planBody s)) × Verdict s t
+      to : bit (meaningWord s) t ≡ true → Verdict s t
       to b =
           elim (decLt t (stateCount (planBody s))) [
-            | yes l ↦ (l, verdict-decided (accepted-iff s .0 e) t l .1 (sym (word-bit (stateCount (planBody s)) (inMeaning s) t l) ∙ b))
+            | yes l ↦ verdict-decided (accepted-iff s .0 e) t l .1 (sym (word-bit (stateCount (planBody s)) (inMeaning s) t l) ∙ b)
             | no h ↦ absurd (false≢true (sym (word-high (stateCount (planBody s)) (inMeaning s) t (omega arith)) ∙ b))
           ]
 
@@ -83,15 +83,6 @@ module _ (s : List ℕ) where
       go : (c : Check) → (reportReference s c .number ≡ 0 → ⊥) → reportReference s c .word ≡ 0
       go Passed n = size (ltb 64 (stateCount (planBody s))) (meaningWord s) _ refl n
       go (Failed x) n = refl
-
--- Demand 2 of a list of bytes.
-pub record Demand2 (s : List ℕ) : Type 0 where
-  -- the promised answer, against Table 1
-  pub answer : ByTable1 s (referenceOf s)
-  -- what the call reports is what its answer says: number 0, place 0 and the word, or the refusal's number and place
-  pub report : reportedReference (referenceOf s) ≡ referringOf s
-  -- and the word 0 with it
-  pub zero : (referringOf s .number ≡ 0 → ⊥) → referringOf s .word ≡ 0
 
 pub demand2 : (s : List ℕ) → Demand2 s
 demand2 s = record { answer = by-table1 s; report = promised-report s; zero = refused-zero s }

@@ -1,2 +1,3 @@
 pub mod Reference
+pub mod Demand2
 pub mod Carried

@@ -1,5 +1,5 @@
 -- Document 01, "Reference judge": "It takes a sheet and gives a 64-bit word: bit s is set exactly when state s is in the meaning of the rule by Table
--- 1. Bits from S up are 0. Loops are allowed."
+-- 1 .. Bits from S up are 0. Loops are allowed. It may be slow; it ends."
 use Prim.Native.Nat.{ℕ, zero, suc, _+_, _^_, _<_, _≤_}
 use mathlib.Core.Path.{_≡_}
 use mathlib.Core.Bool.{Bool, true}
@@ -18,7 +18,7 @@ use Rattle.sheet.specs.declared.Refusal.the-variants.{TooManyStates}
 use Rattle.calculus.specs.Decode.{planOf, formula}
 use Rattle.calculus.specs.Verdict.{emptyContext, Verdict}
 use Rattle.calculus.specs.Meeting.{bit}
-use Rattle.calculus.proofs.Eval.{eval}
+use Rattle.calculus.specs.Eval.{eval}
 use Rattle.reference.specs.declared.Reference.{Reference}
 use Rattle.reference.specs.declared.Reference.the-variants.{Word, Refused}
 
@@ -32,6 +32,7 @@ unfoldable pub wordUpTo : ℕ → (ℕ → Bool) → ℕ
 wordUpTo zero U = 0
 wordUpTo (suc t) U = wordUpTo t U + pick (U t) (2 ^ t) 0
 
+-- "gives a 64-bit word": bit t for state t
 unfoldable pub meaningWord : List ℕ → ℕ
 meaningWord s = wordUpTo (stateCount (planBody s)) (inMeaning s)
 
@@ -50,10 +51,12 @@ pub record Referring : Type 0 where
   pub place : ℕ
   pub word : ℕ
 
+-- number, place and word of each answer
 abbrev pub reportedReference : Reference → Referring
 reportedReference (Word w) = record { number = 0; place = 0; word = w }
 reportedReference (Refused r) = record { number = numberOf r; place = placeOf r; word = 0 }
 
+-- the report for a sheet, by what the reader's check says of it
 abbrev pub reportReference : List ℕ → Check → Referring
 reportReference s Passed =
     pick (ltb 64 (stateCount (planBody s))) (record { number = 13; place = 0; word = 0 }) (record { number = 0; place = 0; word = meaningWord s })
@@ -65,10 +68,11 @@ referringOf s = reportReference s (sheetCheck s)
 
 -- The same against Table 1 itself: the answer is a word, and "bit s is set exactly when state s is in the meaning of the rule by Table 1 (least: the
 -- intersection of all sets that their own image lies inside; greatest: the union of all sets that lie inside their own image). Bits from S up are 0."
+-- Verdict holds of no number from S up.
 pub record MeaningWord (s : List ℕ) (r : Reference) : Type 0 where
   pub word : ℕ
   pub is : r ≡ Word word
-  pub bits : (t : ℕ) → (bit word t ≡ true) ↔ ((t < stateCount (planBody s)) × Verdict s t)
+  pub bits : (t : ℕ) → (bit word t ≡ true) ↔ Verdict s t
 
 -- for every list of bytes: an accepted sheet of at most 64 states has such an answer, any other its refusal
 pub record ByTable1 (s : List ℕ) (r : Reference) : Type 0 where

@@ -21,6 +21,7 @@ pub(crate) fn all(states: u8) -> u64
     0xFFFF_FFFF_FFFF_FFFF
 }
 
+// Whether state s is in the set.
 pub(crate) fn has(states: u64, s: State) -> bool
     ensures { λ r. ⌜ r ≡ bit states (s .0) ⌝ }
 {
@@ -30,6 +31,7 @@ pub(crate) fn has(states: u64, s: State) -> bool
     false
 }
 
+// The set with state s.
 pub(crate) fn with_state(states: u64, s: State) -> u64
     requires { ⌜ s .0 < 64 ⌝ }
     ensures { λ r. ⌜ r ≡ bitOr states (2 ^ s .0) ⌝ }
@@ -37,6 +39,7 @@ pub(crate) fn with_state(states: u64, s: State) -> u64
     states | (1 << s.0)
 }
 
+// The set of one variable.
 pub(crate) fn set_of(context: &[u64; 6], x: Variable) -> u64
     requires { ⌜ x .0 < 6 ⌝ }
     ensures { λ r. ⌜ r ≡ getD (now (context .entry)) (x .0) 0 ⌝ }
@@ -52,6 +55,7 @@ pub(crate) fn put(context: &mut [u64; 6], x: Variable, states: u64)
     context[x.0 as usize] = states;
 }
 
+// The kind of the node that binds variable x.
 fn binder_kind(rule: &[u8], x: Variable) -> u8
     ensures { λ r. ⌜ r ≡ binderKind (now (rule .entry)) (x .0) ⌝ }
 {

@@ -39,6 +39,7 @@ pub(crate) fn meetings(actions: &[u8], count: u8) -> [u32; 256]
     masks
 }
 
+// The action formulas that the action meets.
 fn mask_of(masks: &[u32; 256], a: Action) -> u32
     ensures { λ r. ⌜ r ≡ getD (now (masks .entry)) (a .0) 0 ⌝ }
 {

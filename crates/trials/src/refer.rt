@@ -6,7 +6,7 @@ use reference::Reference;
 
 fn refer(sheet: &[u8]) {
     output::text(b"reference");
-    let answer = reference::judge::reference(sheet);
+    let answer = reference::referring::reference(sheet);
     match answer {
         Reference::Word(w) => {
             output::accepted();

@@ -1,9 +1,9 @@
--- `reference::judge::reference` meets its contract.
+-- `reference::referring::reference` meets its contract.
 use borrow.Author.Needs.{needs}
 use mathlib.Core.Path.{sym, _∙_}
 use Rattle.reference.proofs.Answers.{answer-refused, answer-large, start, answer-word}
-use Rattle.reference.proofs.judge.reference.Statement.{statement}
-use Rattle.reference.proofs.judge.reference.Tie as tie
+use Rattle.reference.proofs.referring.reference.Statement.{statement}
+use Rattle.reference.proofs.referring.reference.Tie as tie
 
 check-requires : tie.Need-check-requires
 check-requires c κs = search needs
