@@ -1,7 +1,7 @@
 -- Demand 3, for every sheet without loop, every table just cleared for it and every list of states.
 use Prim.Native.Nat.{ℕ, _<_, _≤_}
 use mathlib.Core.Path.{_≡_, sym, subst, subst₃, _∙_}
-use mathlib.Core.Bool.{Bool, true}
+use mathlib.Core.Bool.{Bool, true, false≢true}
 use mathlib.Core.List.{List}
 use mathlib.Core.Logic.{_↔_, inl, inr, Iff·trans}
 use native.Mathlib.Omega.{arith}
@@ -17,6 +17,7 @@ use Rattle.calculus.specs.Meaning.{Holds}
 use Rattle.calculus.specs.Verdict.{emptyContext, Verdict}
 use Rattle.calculus.specs.Guard.{guardedRule}
 use Rattle.calculus.specs.Exchange.{exchanged, exchangedRule}
+use Rattle.calculus.proofs.Verdicts.{verdict-below, verdict-holds}
 use Rattle.calculus.proofs.Exchange.{exchanged-plan, exchanged-actions, exchanged-rule, exchanged-kept}
 use Rattle.judge.specs.Rows.{value}
 use Rattle.judge.specs.Tables.{byteAt, filled, count}
@@ -64,8 +65,7 @@ module _ (s : List ℕ) (accepted : sheetCheck s ≡ Passed) (none : NoLoop s) w
   start state h = root-valid bodies state h (settles state h)
 
   table1 : (state : ℕ) → state < stateCount (planBody s) → (solutionOf s (cell 0 0 state) ≡ true) ↔ Verdict s state
-  unfolding Verdict
-  table1 state h = verdict-truth (planBody s) (actionsBody s) (ruleBody s) bodies state h (settles state h)
+  table1 state h = Iff·trans (verdict-truth (planBody s) (actionsBody s) (ruleBody s) bodies state h (settles state h)) (verdict-holds s state h)
 
   -- from a table just cleared
   module _ (t : List ℕ) (fits : sizeOf s ≤ length t) (states : List ℕ) where
@@ -121,11 +121,23 @@ module _ (s : List ℕ) (accepted : sheetCheck s ≡ Passed) (none : NoLoop s) w
         subst₃ (λ (p a r : List ℕ). solutionOf s (cell 0 0 state) ≡ value (rows p a r) enough (cell 0 0 state)) (sym other-plan) (sym other-actions) (sym other-rule)
         (sym (exchange-value bodies whole choice state h (settles state h)))
 
-    same-verdict : (state : ℕ) → state < stateCount (planBody s) → Verdict s state ↔ Verdict other state
-    unfolding Verdict
-    same-verdict state h =
-        subst₃ (λ (p a r : List ℕ). Verdict s state ↔ Holds (planOf p) (formula a r 0) emptyContext state) (sym other-plan) (sym other-actions) (sym other-rule)
+    same-holds : (state : ℕ) → state < stateCount (planBody s)
+        → Holds (planOf (planBody s)) (formula (actionsBody s) (ruleBody s) 0) emptyContext state ↔ Holds (planOf (planBody other)) (formula (actionsBody other) (ruleBody other) 0) emptyContext state
+    same-holds state h =
+        subst₃ (λ (p a r : List ℕ). Holds (planOf (planBody s)) (formula (actionsBody s) (ruleBody s) 0) emptyContext state ↔ Holds (planOf p) (formula a r 0) emptyContext state)
+        (sym other-plan) (sym other-actions) (sym other-rule)
         (exchange-holds bodies whole choice state h (settles state h))
+
+    other-state : (state : ℕ) → state < stateCount (planBody s) → state < stateCount (planBody other)
+    other-state state h = rw other-plan h
+
+    same-verdict : (state : ℕ) → Verdict s state ↔ Verdict other state
+    same-verdict state = (
+      λ v. let h = verdict-below s state v in verdict-holds other state (other-state state h) .0 (same-holds state h .0 (verdict-holds s state h .1 v)),
+      λ v.
+          let h : state < stateCount (planBody s) = subst (λ (p : List ℕ). state < stateCount p) other-plan (verdict-below other state v) in
+          verdict-holds s state h .0 (same-holds state h .1 (verdict-holds other state (verdict-below other state v) .1 v)),
+    )
 
 module _ (s : List ℕ) (accepted : sheetCheck s ≡ Passed) (none : NoLoop s) (t : List ℕ) (fits : sizeOf s ≤ length t) (states : List ℕ) where
   exchanges : guardedRule s ≡ true → (choice : ℕ → Bool) → Exchange s states (reports s (tableCleared s t) states) choice
@@ -146,7 +158,7 @@ module _ (s : List ℕ) (accepted : sheetCheck s ≡ Passed) (none : NoLoop s) (
   demands : Demand3 s t states
   demands = record {
     refusals = reported-map (λ state q a. number-of state q a) states (reports s (tableCleared s t) states) (answers s accepted none t fits states);
-    verdicts = reported-map (λ state q a h. verdict-of state q h a) states (reports s (tableCleared s t) states) (answers s accepted none t fits states);
+    verdicts = reported-map (λ state q a. verdict-of state q a) states (reports s (tableCleared s t) states) (answers s accepted none t fits states);
     exchange = exchanges;
     cells = left s accepted none t fits states .exactly;
     solved = λ i h f. left s accepted none t fits states .solved i h (sym (left s accepted none t fits states .exactly i h) ∙ f);
@@ -164,9 +176,9 @@ module _ (s : List ℕ) (accepted : sheetCheck s ≡ Passed) (none : NoLoop s) (
       number-of state q (inl a) = (λ e. a .0, λ h. a .1)
       number-of state q (inr a) = (λ e. absurd (omega arith), λ h. absurd (omega arith))
 
-      verdict-of : (state : ℕ) (q : QueryReport) → state < S → Answer S (solutionOf s) state q → (q .verdict ≡ true) ↔ Verdict s state
-      verdict-of state q h (inl a) = Iff·trans (λ e. sym (a .2) ∙ e, λ e. a .2 ∙ e) (table1 s accepted none state h)
-      verdict-of state q h (inr a) = absurd (omega arith)
+      verdict-of : (state : ℕ) (q : QueryReport) → Answer S (solutionOf s) state q → (q .verdict ≡ true) ↔ Verdict s state
+      verdict-of state q (inl a) = Iff·trans (λ e. sym (a .2) ∙ e, λ e. a .2 ∙ e) (table1 s accepted none state (a .0))
+      verdict-of state q (inr a) = (λ e. absurd (false≢true (sym (a .2) ∙ e)), λ v. absurd (omega (arith, a .0, verdict-below s state v)))
 
 pub demand3 : DemandThree
 demand3 = record {

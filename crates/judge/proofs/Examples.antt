@@ -1,10 +1,10 @@
 -- P1 to P11 of document 01, "Sheets to try", shown by computing with the definitions.
 use Prim.Native.Nat.{ℕ, zero, suc, _^_, _<_}
 use mathlib.Core.Path.{_≡_, refl, sym, subst, _∙_}
-use mathlib.Core.Bool.{Bool, true, false}
+use mathlib.Core.Bool.{true, false, false≢true}
 use mathlib.Core.List.{List, [], _∷_}
-use mathlib.Core.Logic.{Iff·trans, Iff·symm}
 use native.Mathlib.Omega.{arith}
+use native.Mathlib.Decide.{decLt}
 use lib.ListN.{replicate}
 use Rattle.sheet.specs.Bytes.{lowestFrom}
 use Rattle.sheet.specs.Contents.{headingRight, contentsRight, entryIs, planBody, actionsBody, ruleBody}
@@ -19,10 +19,10 @@ use Rattle.calculus.specs.Decode.{transitionsFrom, actionWithin, formulaWithin,
 use Rattle.calculus.specs.Meaning.{meets}
 use Rattle.calculus.specs.Meeting.{bit}
 use Rattle.calculus.specs.Guarded.{guardedIn, guarded}
-use Rattle.calculus.specs.Verdict.{emptyContext, Verdict}
-use Rattle.calculus.specs.Eval.{eval, rounds, tabulate, valuesBelow as table, anyTransition as any, departs as leaves}
-use Rattle.calculus.proofs.Decide.{decide}
-use Rattle.calculus.proofs.PlanOf.{plan-wellformed}
+use Rattle.calculus.specs.Verdict.{emptyContext}
+use Rattle.calculus.specs.Eval.{eval, rounds, tabulate, valuesBelow, anyTransition, departs}
+use Rattle.calculus.proofs.Bits.{bit-high}
+use Rattle.calculus.proofs.Verdicts.{verdict-below, verdict-decided}
 use Rattle.judge.specs.Rows.{joined, looked, value, need}
 use Rattle.judge.specs.Loops.{every, settled}
 use Rattle.judge.specs.Tables.{count, rewritten, among, changed, fills, filling, query}
@@ -40,16 +40,18 @@ asked s states answers accepted e t size = subst (λ (u : List ℕ). reports s u
 -- where the evaluator says the same of every state
 word : (s : List ℕ) (w : ℕ) → sheetCheck s ≡ Passed → w < 2 ^ stateCount (planBody s)
     → ((state : ℕ) → state < stateCount (planBody s) → eval (planOf (planBody s)) (formula (actionsBody s) (ruleBody s) 0) emptyContext state ≡ bit w state) → Word s w
-unfolding Verdict
 word s w accepted small same = record {
-  bits = λ state h.
-      Iff·trans (λ e. same state h ∙ e, λ e. sym (same state h) ∙ e)
-      (Iff·symm (decide (plan-wellformed (planBody s) (accepted-iff s .0 accepted .bodies-kept .plan-kept)) (formula (actionsBody s) (ruleBody s) 0) emptyContext state h));
-  no-more = small;
+  bits = λ state. (
+    λ b. elim (decLt state (stateCount (planBody s))) [
+      | yes h ↦ verdict-decided (accepted-iff s .0 accepted) state h .1 (same state h ∙ b)
+      | no h ↦ absurd (false≢true (sym (bit-high w (stateCount (planBody s)) state small (omega arith)) ∙ b))
+    ],
+    λ v. let h = verdict-below s state v in sym (same state h) ∙ verdict-decided (accepted-iff s .0 accepted) state h .0 v,
+  );
 }
 
 pub sheets-to-try : SheetsToTry
-unfolding bit sheetOf sheetCheck headingRight contentsRight entryIs bodiesCheck planCheck planSized lowestFrom transitionFaulty actionsCheck actionsSized entryFaulty entryRight ruleCheck ruleSized extent bindersBefore binderNode endWithin bindingFaulty transitionsFrom actionWithin formulaWithin meets guarded guardedIn eval rounds tabulate table any leaves joined looked value need every settled count rewritten among changed fills filling query following rows targets loopless bytesRight queryCheck queriedOf tableQueried reports
+unfolding bit sheetOf sheetCheck headingRight contentsRight entryIs bodiesCheck planCheck planSized lowestFrom transitionFaulty actionsCheck actionsSized entryFaulty entryRight ruleCheck ruleSized extent bindersBefore binderNode endWithin bindingFaulty transitionsFrom actionWithin formulaWithin meets guarded guardedIn eval rounds tabulate valuesBelow anyTransition departs joined looked value need every settled count rewritten among changed fills filling query following rows targets loopless bytesRight queryCheck queriedOf tableQueried reports
 sheets-to-try = record {
   key-length = refl;
   p1 = asked K (0 ∷ []) (judged true 17 ∷ []) refl refl;

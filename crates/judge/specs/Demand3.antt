@@ -65,7 +65,7 @@ JustCleared s t = clearReportOf s t .number ≡ 0
 pub record Exchange (s states : List ℕ) (answers : List QueryReport) (choice : ℕ → Bool) : Type 0 where
   pub accepted : sheetCheck (exchanged choice s) ≡ Passed
   -- Table 1's verdict is unchanged
-  pub same-verdicts : (state : ℕ) → state < stateCount (planBody s) → Verdict s state ↔ Verdict (exchanged choice s) state
+  pub same-verdicts : (state : ℕ) → Verdict s state ↔ Verdict (exchanged choice s) state
   -- and so are the queries' answers
   pub same-answers : (u : List ℕ) → JustCleared (exchanged choice s) u → SameAnswers answers (reports (exchanged choice s) (tableCleared (exchanged choice s) u) states)
 
@@ -73,8 +73,8 @@ pub record Exchange (s states : List ℕ) (answers : List QueryReport) (choice :
 pub record Demand3 (s t states : List ℕ) : Type 0 where
   -- "A query is refused when its number isn't 0": refused are exactly the queries of a state that the plan doesn't have
   pub refusals : Reported (λ state q. (q .number ≡ 0) ↔ (state < stateCount (planBody s))) states (reports s (tableCleared s t) states)
-  -- every other query's verdict is Table 1's, on the rule as written
-  pub verdicts : Reported (λ state q. state < stateCount (planBody s) → (q .verdict ≡ true) ↔ Verdict s state) states (reports s (tableCleared s t) states)
+  -- the verdict is Table 1's, on the rule as written; a refused query's is false, and its state is in no meaning
+  pub verdicts : Reported (λ state q. (q .verdict ≡ true) ↔ Verdict s state) states (reports s (tableCleared s t) states)
   -- in a guarded rule fixed points can be exchanged
   pub exchange : guardedRule s ≡ true → (choice : ℕ → Bool) → Exchange s states (reports s (tableCleared s t) states) choice
   -- filled are exactly the cells "needed for (0, 0, s), s the state of at least one of" the queries not refused, by the rows as written

@@ -1,12 +1,10 @@
 -- Document 01, "Sheets to try": P1 to P11, "shown together, as one conjunction over the rows and Table 1".
-use Prim.Native.Nat.{ℕ, _^_, _<_}
+use Prim.Native.Nat.{ℕ}
 use mathlib.Core.Path.{_≡_}
 use mathlib.Core.Bool.{Bool, true, false}
 use mathlib.Core.List.{List, [], _∷_}
 use mathlib.Core.Logic.{_↔_}
 use lib.ListN.{length}
-use Rattle.sheet.specs.Contents.{planBody}
-use Rattle.sheet.specs.Plan.{stateCount}
 use Rattle.sheet.specs.Writing.{sheetOf}
 use Rattle.calculus.specs.Meeting.{bit}
 use Rattle.calculus.specs.Guard.{guardedRule}
@@ -73,10 +71,9 @@ judged verdict visits = record { number = 0; place = 0; verdict = verdict; visit
 abbrev pub Asked : List ℕ → ℕ → List ℕ → List QueryReport → Type 0
 Asked s size states answers = (t : List ℕ) → length t ≡ size → reports s (tableCleared s t) states ≡ answers
 
--- "bit s is set exactly when state s is in the meaning of the rule by Table 1"; "Bits from S up are 0"
+-- "bit s is set exactly when state s is in the meaning of the rule by Table 1 .. Bits from S up are 0."
 pub record Word (s : List ℕ) (word : ℕ) : Type 0 where
-  pub bits : (state : ℕ) → state < stateCount (planBody s) → (bit word state ≡ true) ↔ Verdict s state
-  pub no-more : word < 2 ^ stateCount (planBody s)
+  pub bits : (state : ℕ) → (bit word state ≡ true) ↔ Verdict s state
 
 pub record SheetsToTry : Type 0 where
   -- "The key sheet K has 74 bytes"
