@@ -2,7 +2,7 @@
 use Prim.Native.Nat.{ℕ}
 use mathlib.Core.Path.{_≡_}
 use mathlib.Core.List.{List}
-use Rattle.reference.specs.Reference.{Referring, referenceOf, reportedReference, referringOf, ByTable1}
+use Rattle.reference.specs.Reference.{referenceOf, reportedReference, referringOf, ByTable1}
 
 pub record Demand2 (s : List ℕ) : Type 0 where
   -- the answer against Table 1: for an accepted sheet of at most 64 states a word, and "bit s is set exactly when state s is in the meaning of the rule

@@ -1,10 +1,15 @@
 -- The recursion `reference::table1::evaluate` meets its contract. The measure is the number of nodes from n on.
 use native.Mathlib.Omega.{arith}
+use mathlib.Core.Path.{_≡_}
+use mathlib.Core.List.{List}
 use Prim.Native.Nat.{ℕ, _-_, _^_, _<_}
+use denote.Ref.{now}
 use lib.ListN.{getD}
-use Rattle.sheet.specs.Contents.{ruleBody}
+use Rattle.sheet.specs.Contents.{planBody, ruleBody}
+use Rattle.sheet.specs.Plan.{stateCount}
 use Rattle.sheet.specs.Rule.{nodeCount}
-use Rattle.reference.proofs.Clauses.{states-few, plan-asked, full-is, at-node, call-first, call-second, call-modal, step-false, step-true, step-or, step-and, step-some, step-every, step-variable, step-unknown}
+use Rattle.reference.specs.Carried.{Evaluating}
+use Rattle.reference.proofs.Clauses.{states-few, plan-asked, full-is, Call, At, at-node, call-first, call-second, call-modal, step-false, step-true, step-or, step-and, step-some, step-every, step-variable, step-unknown}
 use Rattle.reference.proofs.Rounds.{Going, variable-six, binder-six, going-start, call-binder}
 use Rattle.reference.proofs.Reached.{step-least, least-less, least-round, step-greatest, greatest-less, greatest-round}
 use borrow.Fn.Kinds.{In}
@@ -87,127 +92,83 @@ module _ (t : ℕ) where
   node-requires : evaluate-lts.Need-node-requires (claims t) (given t) evaluate.Post Inv-least μ-least Inv-greatest μ-greatest
   node-requires c κs = tt
 
+  -- where node n has been read: its fields, the full set, and a call for a node inside it
+  module _ (b : evaluate-lts.After-node (claims t) (given t) evaluate.Post Inv-least μ-least Inv-greatest μ-greatest) where
+    abbrev start : evaluate-lts.Start (claims t) (given t) evaluate.Post Inv-least μ-least Inv-greatest μ-greatest
+    start = b .before .before .before .before .before .before
+
+    here : At (now (start .args .sheet)) (now (start .args .masks)) (start .args .n .0) (now (start .args .context)) (b .node .result)
+    here = at-node (start .pre .1) _ (b .before .before .before .rule-body .ensures) _ (b .node .ensures)
+
+    full : b .before .all .result ≡ 2 ^ stateCount (planBody (now (start .args .sheet))) - 1
+    full = full-is (start .pre .1) _ (b .before .before .before .before .plan-body .ensures) _ (b .before .before .state-count .ensures) _ (b .before .all .ensures)
+
+    called : {c : ℕ} {words : List ℕ} → Call (now (start .args .sheet)) (now (start .args .masks)) (start .args .n .0) c words
+        → (nodeCount (ruleBody (now (start .args .sheet))) - c < t) × Evaluating (now (start .args .sheet)) (now (start .args .masks)) c words
+    called k = (omega (arith, k .fewer, start .pre .0), k .asked)
+
   evaluate-requires : evaluate-lts.Need-evaluate-requires (claims t) (given t) evaluate.Post Inv-least μ-least Inv-greatest μ-greatest
-  evaluate-requires c κs =
-      let b = c .before .before in
-      let p = b .before .before .before .before .before .before .pre in
-      let h = at-node (p .1) _ (b .before .before .before .rule-body .ensures) _ (b .node .ensures) in
-      let k = call-first h (omega arith) (omega arith) in
-      (omega (arith, k .fewer, p .0), k .asked)
+  evaluate-requires c κs = let b = c .before .before in called b (call-first (here b) (omega arith) (omega arith))
 
   evaluate-requires-2 : evaluate-lts.Need-evaluate-requires-2 (claims t) (given t) evaluate.Post Inv-least μ-least Inv-greatest μ-greatest
-  evaluate-requires-2 c κs =
-      let b = c .before .before .before .before in
-      let p = b .before .before .before .before .before .before .pre in
-      let h = at-node (p .1) _ (b .before .before .before .rule-body .ensures) _ (b .node .ensures) in
-      let k = call-second h (omega arith) (omega arith) _ _ (c .before .evaluate .ensures) in
-      (omega (arith, k .fewer, p .0), k .asked)
+  evaluate-requires-2 c κs = let b = c .before .before .before .before in called b (call-second (here b) (omega arith) (omega arith) _ _ (c .before .evaluate .ensures))
 
   evaluate-requires-3 : evaluate-lts.Need-evaluate-requires-3 (claims t) (given t) evaluate.Post Inv-least μ-least Inv-greatest μ-greatest
-  evaluate-requires-3 c κs =
-      let b = c .before .before in
-      let p = b .before .before .before .before .before .before .pre in
-      let h = at-node (p .1) _ (b .before .before .before .rule-body .ensures) _ (b .node .ensures) in
-      let k = call-first h (omega arith) (omega arith) in
-      (omega (arith, k .fewer, p .0), k .asked)
+  evaluate-requires-3 c κs = let b = c .before .before in called b (call-first (here b) (omega arith) (omega arith))
 
   evaluate-requires-4 : evaluate-lts.Need-evaluate-requires-4 (claims t) (given t) evaluate.Post Inv-least μ-least Inv-greatest μ-greatest
-  evaluate-requires-4 c κs =
-      let b = c .before .before .before .before in
-      let p = b .before .before .before .before .before .before .pre in
-      let h = at-node (p .1) _ (b .before .before .before .rule-body .ensures) _ (b .node .ensures) in
-      let k = call-second h (omega arith) (omega arith) _ _ (c .before .evaluate3 .ensures) in
-      (omega (arith, k .fewer, p .0), k .asked)
+  evaluate-requires-4 c κs = let b = c .before .before .before .before in called b (call-second (here b) (omega arith) (omega arith) _ _ (c .before .evaluate3 .ensures))
 
   evaluate-requires-5 : evaluate-lts.Need-evaluate-requires-5 (claims t) (given t) evaluate.Post Inv-least μ-least Inv-greatest μ-greatest
-  evaluate-requires-5 c κs =
-      let b = c .before .before in
-      let p = b .before .before .before .before .before .before .pre in
-      let h = at-node (p .1) _ (b .before .before .before .rule-body .ensures) _ (b .node .ensures) in
-      let k = call-modal h (omega arith) (omega arith) in
-      (omega (arith, k .fewer, p .0), k .asked)
+  evaluate-requires-5 c κs = let b = c .before .before in called b (call-modal (here b) (omega arith) (omega arith))
 
   some-requires : evaluate-lts.Need-some-requires (claims t) (given t) evaluate.Post Inv-least μ-least Inv-greatest μ-greatest
-  some-requires c κs = let b = c .before .before .before in plan-asked (b .before .before .before .before .before .before .pre .1) _ (b .before .before .before .before .plan-body .ensures)
+  some-requires c κs = let b = c .before .before .before in plan-asked (start b .pre .1) _ (b .before .before .before .before .plan-body .ensures)
 
   evaluate-requires-6 : evaluate-lts.Need-evaluate-requires-6 (claims t) (given t) evaluate.Post Inv-least μ-least Inv-greatest μ-greatest
-  evaluate-requires-6 c κs =
-      let b = c .before .before in
-      let p = b .before .before .before .before .before .before .pre in
-      let h = at-node (p .1) _ (b .before .before .before .rule-body .ensures) _ (b .node .ensures) in
-      let k = call-modal h (omega arith) (omega arith) in
-      (omega (arith, k .fewer, p .0), k .asked)
+  evaluate-requires-6 c κs = let b = c .before .before in called b (call-modal (here b) (omega arith) (omega arith))
 
   some-requires-2 : evaluate-lts.Need-some-requires-2 (claims t) (given t) evaluate.Post Inv-least μ-least Inv-greatest μ-greatest
-  some-requires-2 c κs = let b = c .before .before .before in plan-asked (b .before .before .before .before .before .before .pre .1) _ (b .before .before .before .before .plan-body .ensures)
+  some-requires-2 c κs = let b = c .before .before .before in plan-asked (start b .pre .1) _ (b .before .before .before .before .plan-body .ensures)
 
   set-of-requires : evaluate-lts.Need-set-of-requires (claims t) (given t) evaluate.Post Inv-least μ-least Inv-greatest μ-greatest
-  set-of-requires c κs =
-      let b = c .before .before in
-      let p = b .before .before .before .before .before .before .pre in
-      let h = at-node (p .1) _ (b .before .before .before .rule-body .ensures) _ (b .node .ensures) in
-      variable-six h (omega arith)
+  set-of-requires c κs = variable-six (here (c .before .before)) (omega arith)
 
   loop-holds : evaluate-lts.Need-loop-holds (claims t) (given t) evaluate.Post Inv-least μ-least Inv-greatest μ-greatest
-  loop-holds c =
-      let b = c .before in
-      let p = b .before .before .before .before .before .before .pre in
-      let h = at-node (p .1) _ (b .before .before .before .rule-body .ensures) _ (b .node .ensures) in
-      going-start h (omega arith) (omega arith)
+  loop-holds c = going-start (here (c .before)) (omega arith) (omega arith)
 
   set-of-requires-2 : evaluate-lts.Need-set-of-requires-2 (claims t) (given t) evaluate.Post Inv-least μ-least Inv-greatest μ-greatest
-  set-of-requires-2 c κs =
-      let b = c .before .before .before in
-      let p = b .before .before .before .before .before .before .pre in
-      let h = at-node (p .1) _ (b .before .before .before .rule-body .ensures) _ (b .node .ensures) in
-      binder-six h (omega arith) (omega arith)
+  set-of-requires-2 c κs = binder-six (here (c .before .before .before)) (omega arith) (omega arith)
 
   evaluate-requires-7 : evaluate-lts.Need-evaluate-requires-7 (claims t) (given t) evaluate.Post Inv-least μ-least Inv-greatest μ-greatest
-  evaluate-requires-7 c κs =
-      let b = c .before .before .before .before .before in
-      let p = b .before .before .before .before .before .before .pre in
-      let h = at-node (p .1) _ (b .before .before .before .rule-body .ensures) _ (b .node .ensures) in
-      let k = call-binder h (omega arith) (omega arith) _ (c .before .before .before .loop .inv) in
-      (omega (arith, k .fewer, p .0), k .asked)
+  evaluate-requires-7 c κs = let b = c .before .before .before .before .before in called b (call-binder (here b) (omega arith) (omega arith) _ (c .before .before .before .loop .inv))
 
   returns : evaluate-lts.Need-returns (claims t) (given t) evaluate.Post Inv-least μ-least Inv-greatest μ-greatest
   returns c =
       let b = c .before .before .before .before .before .before .before in
-      let p = b .before .before .before .before .before .before .pre in
-      let h = at-node (p .1) _ (b .before .before .before .rule-body .ensures) _ (b .node .ensures) in
-      step-least h (omega arith) (omega arith) _ (c .before .before .before .before .before .loop .inv) _
+      step-least (here b) (omega arith) (omega arith) _ (c .before .before .before .before .before .loop .inv) _
       (c .before .before .before .set-of2 .ensures) _ _ (c .before .evaluate7 .ensures) (omega arith) (c .if1 .taken)
 
   put-requires : evaluate-lts.Need-put-requires (claims t) (given t) evaluate.Post Inv-least μ-least Inv-greatest μ-greatest
-  put-requires c κs =
-      let b = c .before .before .before .before .before .before .before .before in
-      let p = b .before .before .before .before .before .before .pre in
-      let h = at-node (p .1) _ (b .before .before .before .rule-body .ensures) _ (b .node .ensures) in
-      binder-six h (omega arith) (omega arith)
+  put-requires c κs = binder-six (here (c .before .before .before .before .before .before .before .before)) (omega arith) (omega arith)
 
   add-later : evaluate-lts.Need-add-later (claims t) (given t) evaluate.Post Inv-least μ-least Inv-greatest μ-greatest
   add-later c =
       let b = c .before .before .before .before .before .before .before .before .before in
       let m = c .before .before .before .before .before .before .before .before .match .keys8 in
-      let p = b .before .before .before .before .before .before .pre in
-      let h = at-node (p .1) _ (b .before .before .before .rule-body .ensures) _ (b .node .ensures) in
-      omega (arith, binder-six h (omega (arith, m)) (omega (arith, m)))
+      omega (arith, binder-six (here b) (omega (arith, m)) (omega (arith, m)))
 
   restart-requires : evaluate-lts.Need-restart-requires (claims t) (given t) evaluate.Post Inv-least μ-least Inv-greatest μ-greatest
   restart-requires c κs =
       let b = c .before .before .before .before .before .before .before .before .before .before in
       let m = c .before .before .before .before .before .before .before .before .before .match .keys8 in
-      let p = b .before .before .before .before .before .before .pre in
-      let h = at-node (p .1) _ (b .before .before .before .rule-body .ensures) _ (b .node .ensures) in
-      omega (arith, binder-six h (omega (arith, m)) (omega (arith, m)))
+      omega (arith, binder-six (here b) (omega (arith, m)) (omega (arith, m)))
 
   loop-less : evaluate-lts.Need-loop-less (claims t) (given t) evaluate.Post Inv-least μ-least Inv-greatest μ-greatest
   loop-less c =
       let b = c .before .before .before .before .before .before .before .before .before .before .before in
       let m = c .before .before .before .before .before .before .before .before .before .before .match .keys8 in
-      let p = b .before .before .before .before .before .before .pre in
-      let h = at-node (p .1) _ (b .before .before .before .rule-body .ensures) _ (b .node .ensures) in
-      least-less h (omega (arith, m)) (omega (arith, m)) _ (c .before .before .before .before .before .before .before .before .before .loop .inv) _
+      least-less (here b) (omega (arith, m)) (omega (arith, m)) _ (c .before .before .before .before .before .before .before .before .before .loop .inv) _
       (c .before .before .before .before .before .before .before .set-of2 .ensures) _ _
       (c .before .before .before .before .before .evaluate7 .ensures) (omega (arith, m)) _ _ (c .before .before .put .ensures) _
       (b .before .before .before .rule-body .ensures) _ (c .restart .ensures) (c .before .before .before .before .if1 .left)
@@ -216,74 +177,46 @@ module _ (t : ℕ) where
   loop-again c =
       let b = c .before .before .before .before .before .before .before .before .before .before .before in
       let m = c .before .before .before .before .before .before .before .before .before .before .match .keys8 in
-      let p = b .before .before .before .before .before .before .pre in
-      let h = at-node (p .1) _ (b .before .before .before .rule-body .ensures) _ (b .node .ensures) in
-      least-round h (omega (arith, m)) (omega (arith, m)) _ (c .before .before .before .before .before .before .before .before .before .loop .inv) _
+      least-round (here b) (omega (arith, m)) (omega (arith, m)) _ (c .before .before .before .before .before .before .before .before .before .loop .inv) _
       (c .before .before .before .before .before .before .before .set-of2 .ensures) _ _
-      (c .before .before .before .before .before .evaluate7 .ensures) (omega (arith, m)) _
-      (full-is (p .1) _ (b .before .before .before .before .plan-body .ensures) _ (b .before .before .state-count .ensures) _ (b .before .all .ensures))
+      (c .before .before .before .before .before .evaluate7 .ensures) (omega (arith, m)) _ (full b)
       _ (c .before .before .put .ensures) _ (b .before .before .before .rule-body .ensures) _ (c .restart .ensures)
 
   loop2-holds : evaluate-lts.Need-loop2-holds (claims t) (given t) evaluate.Post Inv-least μ-least Inv-greatest μ-greatest
-  loop2-holds c =
-      let b = c .before in
-      let p = b .before .before .before .before .before .before .pre in
-      let h = at-node (p .1) _ (b .before .before .before .rule-body .ensures) _ (b .node .ensures) in
-      going-start h (omega arith) (omega arith)
+  loop2-holds c = going-start (here (c .before)) (omega arith) (omega arith)
 
   set-of-requires-3 : evaluate-lts.Need-set-of-requires-3 (claims t) (given t) evaluate.Post Inv-least μ-least Inv-greatest μ-greatest
-  set-of-requires-3 c κs =
-      let b = c .before .before .before in
-      let p = b .before .before .before .before .before .before .pre in
-      let h = at-node (p .1) _ (b .before .before .before .rule-body .ensures) _ (b .node .ensures) in
-      binder-six h (omega arith) (omega arith)
+  set-of-requires-3 c κs = binder-six (here (c .before .before .before)) (omega arith) (omega arith)
 
   evaluate-requires-8 : evaluate-lts.Need-evaluate-requires-8 (claims t) (given t) evaluate.Post Inv-least μ-least Inv-greatest μ-greatest
-  evaluate-requires-8 c κs =
-      let b = c .before .before .before .before .before in
-      let p = b .before .before .before .before .before .before .pre in
-      let h = at-node (p .1) _ (b .before .before .before .rule-body .ensures) _ (b .node .ensures) in
-      let k = call-binder h (omega arith) (omega arith) _ (c .before .before .before .loop2 .inv) in
-      (omega (arith, k .fewer, p .0), k .asked)
+  evaluate-requires-8 c κs = let b = c .before .before .before .before .before in called b (call-binder (here b) (omega arith) (omega arith) _ (c .before .before .before .loop2 .inv))
 
   returns-2 : evaluate-lts.Need-returns-2 (claims t) (given t) evaluate.Post Inv-least μ-least Inv-greatest μ-greatest
   returns-2 c =
       let b = c .before .before .before .before .before .before .before in
-      let p = b .before .before .before .before .before .before .pre in
-      let h = at-node (p .1) _ (b .before .before .before .rule-body .ensures) _ (b .node .ensures) in
-      step-greatest h (omega arith) (omega arith) _ (c .before .before .before .before .before .loop2 .inv) _
+      step-greatest (here b) (omega arith) (omega arith) _ (c .before .before .before .before .before .loop2 .inv) _
       (c .before .before .before .set-of3 .ensures) _ _ (c .before .evaluate8 .ensures) (omega arith) (c .if2 .taken)
 
   put-requires-2 : evaluate-lts.Need-put-requires-2 (claims t) (given t) evaluate.Post Inv-least μ-least Inv-greatest μ-greatest
-  put-requires-2 c κs =
-      let b = c .before .before .before .before .before .before .before .before in
-      let p = b .before .before .before .before .before .before .pre in
-      let h = at-node (p .1) _ (b .before .before .before .rule-body .ensures) _ (b .node .ensures) in
-      binder-six h (omega arith) (omega arith)
+  put-requires-2 c κs = binder-six (here (c .before .before .before .before .before .before .before .before)) (omega arith) (omega arith)
 
   add-later-2 : evaluate-lts.Need-add-later-2 (claims t) (given t) evaluate.Post Inv-least μ-least Inv-greatest μ-greatest
   add-later-2 c =
       let b = c .before .before .before .before .before .before .before .before .before in
       let m = c .before .before .before .before .before .before .before .before .match .keys9 in
-      let p = b .before .before .before .before .before .before .pre in
-      let h = at-node (p .1) _ (b .before .before .before .rule-body .ensures) _ (b .node .ensures) in
-      omega (arith, binder-six h (omega (arith, m)) (omega (arith, m)))
+      omega (arith, binder-six (here b) (omega (arith, m)) (omega (arith, m)))
 
   restart-requires-2 : evaluate-lts.Need-restart-requires-2 (claims t) (given t) evaluate.Post Inv-least μ-least Inv-greatest μ-greatest
   restart-requires-2 c κs =
       let b = c .before .before .before .before .before .before .before .before .before .before in
       let m = c .before .before .before .before .before .before .before .before .before .match .keys9 in
-      let p = b .before .before .before .before .before .before .pre in
-      let h = at-node (p .1) _ (b .before .before .before .rule-body .ensures) _ (b .node .ensures) in
-      omega (arith, binder-six h (omega (arith, m)) (omega (arith, m)))
+      omega (arith, binder-six (here b) (omega (arith, m)) (omega (arith, m)))
 
   loop2-less : evaluate-lts.Need-loop2-less (claims t) (given t) evaluate.Post Inv-least μ-least Inv-greatest μ-greatest
   loop2-less c =
       let b = c .before .before .before .before .before .before .before .before .before .before .before in
       let m = c .before .before .before .before .before .before .before .before .before .before .match .keys9 in
-      let p = b .before .before .before .before .before .before .pre in
-      let h = at-node (p .1) _ (b .before .before .before .rule-body .ensures) _ (b .node .ensures) in
-      greatest-less h (omega (arith, m)) (omega (arith, m)) _ (c .before .before .before .before .before .before .before .before .before .loop2 .inv)
+      greatest-less (here b) (omega (arith, m)) (omega (arith, m)) _ (c .before .before .before .before .before .before .before .before .before .loop2 .inv)
       _ (c .before .before .before .before .before .before .before .set-of3 .ensures) _ _
       (c .before .before .before .before .before .evaluate8 .ensures) (omega (arith, m)) _ (c .before .before .put2 .ensures) _
       (b .before .before .before .rule-body .ensures) _ (c .restart2 .ensures) (c .before .before .before .before .if2 .left)
@@ -292,74 +225,44 @@ module _ (t : ℕ) where
   loop2-again c =
       let b = c .before .before .before .before .before .before .before .before .before .before .before in
       let m = c .before .before .before .before .before .before .before .before .before .before .match .keys9 in
-      let p = b .before .before .before .before .before .before .pre in
-      let h = at-node (p .1) _ (b .before .before .before .rule-body .ensures) _ (b .node .ensures) in
-      greatest-round h (omega (arith, m)) (omega (arith, m)) _ (c .before .before .before .before .before .before .before .before .before .loop2 .inv)
+      greatest-round (here b) (omega (arith, m)) (omega (arith, m)) _ (c .before .before .before .before .before .before .before .before .before .loop2 .inv)
       _ (c .before .before .before .before .before .before .before .set-of3 .ensures) _ _
       (c .before .before .before .before .before .evaluate8 .ensures) (omega (arith, m)) _ (c .before .before .put2 .ensures) _
       (b .before .before .before .rule-body .ensures) _ (c .restart2 .ensures)
 
   returns-3 : evaluate-lts.Need-returns-3 (claims t) (given t) evaluate.Post Inv-least μ-least Inv-greatest μ-greatest
-  returns-3 c =
-      let b = c .before in
-      let p = b .before .before .before .before .before .before .pre in
-      let h = at-node (p .1) _ (b .before .before .before .rule-body .ensures) _ (b .node .ensures) in
-      step-false h (omega arith)
+  returns-3 c = step-false (here (c .before)) (omega arith)
 
   returns-4 : evaluate-lts.Need-returns-4 (claims t) (given t) evaluate.Post Inv-least μ-least Inv-greatest μ-greatest
-  returns-4 c =
-      let b = c .before in
-      let p = b .before .before .before .before .before .before .pre in
-      let h = at-node (p .1) _ (b .before .before .before .rule-body .ensures) _ (b .node .ensures) in
-      step-true h (omega arith) _
-      (full-is (p .1) _ (b .before .before .before .before .plan-body .ensures) _ (b .before .before .state-count .ensures) _ (b .before .all .ensures))
+  returns-4 c = let b = c .before in step-true (here b) (omega arith) _ (full b)
 
   returns-5 : evaluate-lts.Need-returns-5 (claims t) (given t) evaluate.Post Inv-least μ-least Inv-greatest μ-greatest
   returns-5 c =
-      let b = c .before .before .before .before .before in
-      let p = b .before .before .before .before .before .before .pre in
-      let h = at-node (p .1) _ (b .before .before .before .rule-body .ensures) _ (b .node .ensures) in
-      step-or h (omega arith) (omega arith) _ _ (c .before .before .evaluate .ensures) _ _ (c .evaluate2 .ensures) (omega arith)
+      step-or (here (c .before .before .before .before .before)) (omega arith) (omega arith) _ _ (c .before .before .evaluate .ensures) _ _ (c .evaluate2 .ensures) (omega arith)
 
   returns-6 : evaluate-lts.Need-returns-6 (claims t) (given t) evaluate.Post Inv-least μ-least Inv-greatest μ-greatest
   returns-6 c =
-      let b = c .before .before .before .before .before in
-      let p = b .before .before .before .before .before .before .pre in
-      let h = at-node (p .1) _ (b .before .before .before .rule-body .ensures) _ (b .node .ensures) in
-      step-and h (omega arith) (omega arith) _ _ (c .before .before .evaluate3 .ensures) _ _ (c .evaluate4 .ensures) (omega arith)
+      step-and (here (c .before .before .before .before .before)) (omega arith) (omega arith) _ _ (c .before .before .evaluate3 .ensures) _ _ (c .evaluate4 .ensures) (omega arith)
 
   returns-7 : evaluate-lts.Need-returns-7 (claims t) (given t) evaluate.Post Inv-least μ-least Inv-greatest μ-greatest
   returns-7 c =
       let b = c .before .before .before .before in
-      let p = b .before .before .before .before .before .before .pre in
-      let h = at-node (p .1) _ (b .before .before .before .rule-body .ensures) _ (b .node .ensures) in
-      step-some h (omega arith) (omega arith) _ (b .before .before .before .before .plan-body .ensures) _ _ (c .before .evaluate5 .ensures)
+      step-some (here b) (omega arith) (omega arith) _ (b .before .before .before .before .plan-body .ensures) _ _ (c .before .evaluate5 .ensures)
       (omega arith) _ (c .some .ensures)
 
   returns-8 : evaluate-lts.Need-returns-8 (claims t) (given t) evaluate.Post Inv-least μ-least Inv-greatest μ-greatest
   returns-8 c =
       let b = c .before .before .before .before in
-      let p = b .before .before .before .before .before .before .pre in
-      let h = at-node (p .1) _ (b .before .before .before .rule-body .ensures) _ (b .node .ensures) in
-      step-every h (omega arith) (omega arith) _ (b .before .before .before .before .plan-body .ensures) _ _ (c .before .evaluate6 .ensures)
-      (omega arith) _ _
-      (full-is (p .1) _ (b .before .before .before .before .plan-body .ensures) _ (b .before .before .state-count .ensures) _ (b .before .all .ensures))
-      (c .some2 .ensures)
+      step-every (here b) (omega arith) (omega arith) _ (b .before .before .before .before .plan-body .ensures) _ _ (c .before .evaluate6 .ensures)
+      (omega arith) _ _ (full b) (c .some2 .ensures)
 
   returns-9 : evaluate-lts.Need-returns-9 (claims t) (given t) evaluate.Post Inv-least μ-least Inv-greatest μ-greatest
-  returns-9 c =
-      let b = c .before .before .before in
-      let p = b .before .before .before .before .before .before .pre in
-      let h = at-node (p .1) _ (b .before .before .before .rule-body .ensures) _ (b .node .ensures) in
-      step-variable h (omega arith) _ (c .set-of .ensures)
+  returns-9 c = step-variable (here (c .before .before .before)) (omega arith) _ (c .set-of .ensures)
 
   returns-10 : evaluate-lts.Need-returns-10 (claims t) (given t) evaluate.Post Inv-least μ-least Inv-greatest μ-greatest
   returns-10 c =
-      let b = c .before in
-      let p = b .before .before .before .before .before .before .pre in
-      let h = at-node (p .1) _ (b .before .before .before .rule-body .ensures) _ (b .node .ensures) in
       let r = c .match .rest in
-      step-unknown h
+      step-unknown (here (c .before))
       (record {
         low = (r .0 .0 .0 .0 .0 .0 .0 .0 .1, (r .0 .0 .0 .0 .0 .0 .0 .1, (r .0 .0 .0 .0 .0 .0 .1, (r .0 .0 .0 .0 .0 .1, r .0 .0 .0 .0 .1))));
         high = (r .0 .0 .0 .1, (r .0 .0 .1, (r .0 .1, r .1)));
