@@ -5,13 +5,22 @@ use mathlib.Core.Bool.{Bool, true, false, _&&_, true≢false}
 use mathlib.Core.List.{List}
 use lib.ListN.{length}
 use lib.Dec.{eqb, leb}
-use borrow.Author.Tests.{le-leb, lt-leb, leb-true}
+use native.Mathlib.Omega.{arith}
+use borrow.Author.Tests.{le-leb, lt-leb, leb-true, eqb-true}
 use Rattle.sheet.specs.Plan.{stateCount, transitionCount, planSized}
 use Rattle.sheet.specs.Actions.{entryCount, actionsSized}
 use Rattle.sheet.specs.Rule.{nodeCount, ruleSized}
 use Rattle.sheet.specs.Parts.{NodeOf}
+use Rattle.sheet.proofs.Checks.{both₅}
 
 module _ (p : List ℕ) where
+  -- a plan of the right size has a byte for each field of each transition
+  pub plan-room : planSized p ≡ true → 4 + 3 * transitionCount p ≤ length p
+  unfolding planSized
+  plan-room e =
+      let q : length p ≡ 4 + 3 * transitionCount p = eqb-true _ _ (both₅ (leb 4 (length p)) (leb 1 (stateCount p)) (leb (stateCount p) 128) (leb (transitionCount p) 2048) (eqb (length p) (4 + 3 * transitionCount p)) e .4) in
+      omega arith
+
   pub plan-short : length p < 4 → planSized p ≡ false
   unfolding planSized
   plan-short h = simp (lt-leb _ _ h)

@@ -3,6 +3,7 @@
 use Prim.Native.Nat.{ℕ, zero, suc, _+_, _*_, _<_}
 use mathlib.Core.Path.{_≡_}
 use mathlib.Core.List.{List}
+use lib.ListN.{length}
 use Rattle.sheet.specs.Bytes.{pick}
 use Rattle.sheet.specs.Plan.{stateCount, actionCount, origin, label, target, transitionFaulty}
 
@@ -24,4 +25,5 @@ pub record Stepping (p : List ℕ) (states actions floor i : ℕ) : Type 0 where
   pub states-are : states ≡ stateCount p
   pub actions-are : actions ≡ actionCount p
   pub floor-is : floor ≡ floorAt p i
+  pub inside : 6 + 3 * i < length p
   pub small : i < 65536

@@ -2,6 +2,7 @@
 use crate::Fields;
 ghost use mathlib.Core.Path.{_≡_};
 ghost use Prim.Native.Nat.{_<_};
+ghost use lib.ListN.{length};
 ghost use Rattle.sheet.specs.Bytes.{byte, word, part};
 ghost use Rattle.sheet.specs.Fields.{fieldsAt};
 
@@ -15,6 +16,14 @@ pub(crate) fn byte_at(s: &[u8], i: usize) -> usize
     ensures { λ r. ⌜ (r ≡ byte (now (s .entry)) i) × (r < 256) ⌝ }
 {
     if i < s.len() { wide(s[i]) } else { 0 }
+}
+
+// The same where the place is known to be within.
+pub(crate) fn byte_in(s: &[u8], i: usize) -> usize
+    requires { ⌜ i < length (now s) ⌝ }
+    ensures { λ r. ⌜ (r ≡ byte (now (s .entry)) i) × (r < 256) ⌝ }
+{
+    wide(s[i])
 }
 
 pub(crate) fn word_at(s: &[u8], i: usize) -> usize

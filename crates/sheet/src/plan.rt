@@ -5,10 +5,12 @@ use crate::Refusal;
 use crate::State;
 use crate::Transition;
 use crate::bytes::byte_at;
+use crate::bytes::byte_in;
 use crate::bytes::narrow_at;
 use crate::bytes::word_at;
 ghost use mathlib.Core.Path.{_≡_};
-ghost use Prim.Native.Nat.{_<_};
+ghost use Prim.Native.Nat.{_+_, _*_, _<_, _≤_};
+ghost use lib.ListN.{length};
 ghost use Rattle.sheet.specs.Plan.{stateCount, actionCount, transitionCount, planSized, lowestTransition};
 ghost use Rattle.sheet.specs.Fields.{transitionAt};
 ghost use Rattle.sheet.specs.Order.{stepAt, Stepping};
@@ -39,15 +41,15 @@ fn step(p: &[u8], states: usize, actions: usize, floor: usize, i: usize) -> usiz
     requires { ⌜ Stepping (now p) states actions floor i ⌝ }
     ensures { λ r. ⌜ r ≡ stepAt (now (p .entry)) i ⌝ }
 {
-    let f = byte_at(p, 4 + 3 * i);
+    let f = byte_in(p, 4 + 3 * i);
     if states <= f {
         return 0;
     }
-    let a = byte_at(p, 5 + 3 * i);
+    let a = byte_in(p, 5 + 3 * i);
     if actions <= a {
         return 0;
     }
-    let t = byte_at(p, 6 + 3 * i);
+    let t = byte_in(p, 6 + 3 * i);
     if states <= t {
         return 0;
     }
@@ -58,8 +60,9 @@ fn step(p: &[u8], states: usize, actions: usize, floor: usize, i: usize) -> usiz
     key + 1
 }
 
-// The lowest faulty transition, or the number of transitions.
+// The lowest faulty transition, or the number of transitions; the plan has a byte for each field of them.
 fn lowest_faulty(p: &[u8]) -> usize
+    requires { ⌜ 4 + 3 * transitionCount (now p) ≤ length (now p) ⌝ }
     ensures { λ r. ⌜ (r ≡ lowestTransition (now (p .entry))) × (r < 65536) ⌝ }
 {
     let states = byte_at(p, 0);

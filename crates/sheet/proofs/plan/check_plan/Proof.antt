@@ -4,6 +4,7 @@ use native.Mathlib.Omega.{arith}
 use mathlib.Core.Path.{sym, ap, _∙_}
 use borrow.Author.Tests.{not-true, not-false}
 use Rattle.sheet.proofs.CheckSteps.{plan-unsized, plan-passed, plan-faulty}
+use Rattle.sheet.proofs.Sizes.{plan-room}
 use Rattle.sheet.proofs.plan.check_plan.Statement.{statement}
 use Rattle.sheet.proofs.plan.check_plan.Tie as tie
 
@@ -14,7 +15,7 @@ returns : tie.Need-returns
 returns c = plan-unsized _ (sym (c .before .sized .ensures) ∙ not-true _ (c .if1 .taken))
 
 lowest-faulty-requires : tie.Need-lowest-faulty-requires
-lowest-faulty-requires c κs = search needs
+lowest-faulty-requires c κs = plan-room _ (sym (c .before .sized .ensures) ∙ not-false _ (c .if1 .left))
 
 word-at-requires : tie.Need-word-at-requires
 word-at-requires c κs = search needs

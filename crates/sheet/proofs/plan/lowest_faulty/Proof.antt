@@ -31,7 +31,7 @@ unfolding floorAt
 loop-holds c = (omega arith, refl, search-start _ _ _ (c .word-at .ensures .0))
 
 step-requires : tie.Need-step-requires Inv-loop μ-loop
-step-requires c κs = record { states-are = c .before .before .before .before .byte-at .ensures .0; actions-are = c .before .before .before .byte-at2 .ensures .0; floor-is = c .before .loop .inv .1; small = omega arith }
+step-requires c κs = record { states-are = c .before .before .before .before .byte-at .ensures .0; actions-are = c .before .before .before .byte-at2 .ensures .0; floor-is = c .before .loop .inv .1; inside = omega arith; small = omega arith }
 
 returns : tie.Need-returns Inv-loop μ-loop
 returns c = (search-here _ _ _ _ (omega arith) (stopped _ _ _ (c .before .step .ensures) (c .if1 .taken)) (c .before .before .before .loop .inv .2), omega arith)

@@ -6,38 +6,38 @@ use Rattle.sheet.proofs.Order.{step-origin, step-label, step-target, st
 use Rattle.sheet.proofs.plan.step.Statement.{statement}
 use Rattle.sheet.proofs.plan.step.Tie as tie
 
-mul-byte-at : tie.Need-mul-byte-at
-mul-byte-at c = search needs
+mul-byte-in : tie.Need-mul-byte-in
+mul-byte-in c = search needs
 
-add-byte-at : tie.Need-add-byte-at
-add-byte-at c = search needs
+add-byte-in : tie.Need-add-byte-in
+add-byte-in c = search needs
 
-byte-at-requires : tie.Need-byte-at-requires
-byte-at-requires c κs = search needs
+byte-in-requires : tie.Need-byte-in-requires
+byte-in-requires c κs = search needs
 
 returns : tie.Need-returns
 returns c = step-origin _ _ (omega arith)
 
-mul-byte-at-2 : tie.Need-mul-byte-at-2
-mul-byte-at-2 c = search needs
+mul-byte-in-2 : tie.Need-mul-byte-in-2
+mul-byte-in-2 c = search needs
 
-add-byte-at-2 : tie.Need-add-byte-at-2
-add-byte-at-2 c = search needs
+add-byte-in-2 : tie.Need-add-byte-in-2
+add-byte-in-2 c = search needs
 
-byte-at-requires-2 : tie.Need-byte-at-requires-2
-byte-at-requires-2 c κs = search needs
+byte-in-requires-2 : tie.Need-byte-in-requires-2
+byte-in-requires-2 c κs = search needs
 
 returns-2 : tie.Need-returns-2
 returns-2 c = step-label _ _ (omega arith) (omega arith)
 
-mul-byte-at-3 : tie.Need-mul-byte-at-3
-mul-byte-at-3 c = search needs
+mul-byte-in-3 : tie.Need-mul-byte-in-3
+mul-byte-in-3 c = search needs
 
-add-byte-at-3 : tie.Need-add-byte-at-3
-add-byte-at-3 c = search needs
+add-byte-in-3 : tie.Need-add-byte-in-3
+add-byte-in-3 c = search needs
 
-byte-at-requires-3 : tie.Need-byte-at-requires-3
-byte-at-requires-3 c κs = search needs
+byte-in-requires-3 : tie.Need-byte-in-requires-3
+byte-in-requires-3 c κs = search needs
 
 returns-3 : tie.Need-returns-3
 returns-3 c = step-target _ _ (omega arith) (omega arith) (omega arith)
@@ -61,24 +61,24 @@ add-result : tie.Need-add-result
 add-result c = search needs
 
 returns-5 : tie.Need-returns-5
-returns-5 c = rw (c .before .before .before .before .before .before .byte-at .ensures .0, c .before .before .before .before .byte-at2 .ensures .0, c .before .before .byte-at3 .ensures .0)
+returns-5 c = rw (c .before .before .before .before .before .before .byte-in .ensures .0, c .before .before .before .before .byte-in2 .ensures .0, c .before .before .byte-in3 .ensures .0)
     (step-fine _ (λ k. c .before .before .before .before .before .before .before .shared-slice-known .given k .fits) _ (omega arith) (omega arith) (omega arith) (omega arith))
 
 pub step-spec : {M : Type 1} → statement M
 step-spec =
     tie.close
     (tie.spec
-    mul-byte-at
-    add-byte-at
-    byte-at-requires
+    mul-byte-in
+    add-byte-in
+    byte-in-requires
     returns
-    mul-byte-at-2
-    add-byte-at-2
-    byte-at-requires-2
+    mul-byte-in-2
+    add-byte-in-2
+    byte-in-requires-2
     returns-2
-    mul-byte-at-3
-    add-byte-at-3
-    byte-at-requires-3
+    mul-byte-in-3
+    add-byte-in-3
+    byte-in-requires-3
     returns-3
     mul-key
     add-key
