@@ -13,11 +13,8 @@ use Rattle.calculus.specs.Verdict.{emptyContext}
 use Rattle.calculus.specs.Exchange.{exchangedFrom, exchanged}
 use Rattle.calculus.specs.Meeting.{maskUpTo, meetingMask}
 use Rattle.calculus.specs.Guard.{guardedRule}
+use Rattle.calculus.specs.KeySheet.{K}
 use Rattle.calculus.specs.Eval.{eval, rounds, tabulate, valuesBelow, anyTransition, departs}
-
-abbrev pub K : List ℕ
-K =
-    1 ∷ 3 ∷ 1 ∷ 17 ∷ 0 ∷ 10 ∷ 0 ∷ 2 ∷ 27 ∷ 0 ∷ 10 ∷ 0 ∷ 3 ∷ 37 ∷ 0 ∷ 37 ∷ 0 ∷ 3 ∷ 3 ∷ 2 ∷ 0 ∷ 0 ∷ 1 ∷ 1 ∷ 1 ∷ 2 ∷ 2 ∷ 3 ∷ 2 ∷ 0 ∷ 0 ∷ 2 ∷ 1 ∷ 0 ∷ 2 ∷ 2 ∷ 0 ∷ 12 ∷ 7 ∷ 0 ∷ 1 ∷ 2 ∷ 2 ∷ 4 ∷ 4 ∷ 2 ∷ 3 ∷ 1 ∷ 0 ∷ 0 ∷ 2 ∷ 5 ∷ 7 ∷ 4 ∷ 0 ∷ 6 ∷ 6 ∷ 0 ∷ 0 ∷ 7 ∷ 1 ∷ 8 ∷ 2 ∷ 9 ∷ 10 ∷ 6 ∷ 0 ∷ 0 ∷ 4 ∷ 1 ∷ 11 ∷ 6 ∷ 1 ∷ 0 ∷ []
 
 pub K-plan : planOf (planBody K) ≡ record { states = 3; actions = 3; transitions = record { origin = 0; action = 1; target = 1 } ∷ record { origin = 1; action = 2; target = 2 } ∷ [] }
 unfolding transitionsFrom

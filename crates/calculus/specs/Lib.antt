@@ -9,3 +9,4 @@ pub mod Meeting
 pub mod Guard
 pub mod Carried
 pub mod Eval
+pub mod KeySheet

@@ -30,7 +30,8 @@ use Rattle.judge.specs.Cells.{following, rows, targets}
 use Rattle.judge.specs.Clearing.{sizeOf}
 use Rattle.judge.specs.Querying.{loopless, bytesRight, queryCheck, queriedOf, tableQueried, QueryReport}
 use Rattle.judge.specs.Demand3.{reports}
-use Rattle.judge.specs.SheetsToTry.{K, K-greatest, least-self, greatest-self, every-false, some-true, least-loop, greatest-loop, judged, Asked, Word, SheetsToTry}
+use Rattle.calculus.specs.KeySheet.{K}
+use Rattle.judge.specs.SheetsToTry.{K-greatest, least-self, greatest-self, every-false, some-true, least-loop, greatest-loop, judged, Asked, Word, SheetsToTry}
 use Rattle.judge.proofs.JustCleared.{cleared-exact}
 
 -- on the cleared bytes alone

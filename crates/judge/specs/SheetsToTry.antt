@@ -9,22 +9,12 @@ use Rattle.sheet.specs.Writing.{sheetOf}
 use Rattle.calculus.specs.Meeting.{bit}
 use Rattle.calculus.specs.Guard.{guardedRule}
 use Rattle.calculus.specs.Verdict.{Verdict}
+use Rattle.calculus.specs.KeySheet.{keySheet, K}
 use Rattle.judge.specs.Clearing.{tableCleared}
 use Rattle.judge.specs.Querying.{queriedOf, QueryReport, reportedQuery}
 use Rattle.judge.specs.Demand3.{reports}
 
 -- ---- the sheets
-
--- "The key sheet K has 74 bytes": with the kind of its first rule node
-abbrev pub keySheet : ℕ → List ℕ
-keySheet kind =
-    1 ∷ 3 ∷ 1 ∷ 17 ∷ 0 ∷ 10 ∷ 0 ∷ 2 ∷ 27 ∷ 0 ∷ 10 ∷ 0 ∷ 3 ∷ 37 ∷ 0 ∷ 37 ∷ 0 ∷
-    3 ∷ 3 ∷ 2 ∷ 0 ∷ 0 ∷ 1 ∷ 1 ∷ 1 ∷ 2 ∷ 2 ∷
-    3 ∷ 2 ∷ 0 ∷ 0 ∷ 2 ∷ 1 ∷ 0 ∷ 2 ∷ 2 ∷ 0 ∷
-    12 ∷ kind ∷ 0 ∷ 1 ∷ 2 ∷ 2 ∷ 4 ∷ 4 ∷ 2 ∷ 3 ∷ 1 ∷ 0 ∷ 0 ∷ 2 ∷ 5 ∷ 7 ∷ 4 ∷ 0 ∷ 6 ∷ 6 ∷ 0 ∷ 0 ∷ 7 ∷ 1 ∷ 8 ∷ 2 ∷ 9 ∷ 10 ∷ 6 ∷ 0 ∷ 0 ∷ 4 ∷ 1 ∷ 11 ∷ 6 ∷ 1 ∷ 0 ∷ []
-
-abbrev pub K : List ℕ
-K = keySheet 7
 
 abbrev pub K-greatest : List ℕ
 K-greatest = keySheet 8

@@ -11,7 +11,7 @@ use Rattle.sheet.specs.Reading.{planCheck, actionsCheck, ruleCheck, bodiesCheck
 use Rattle.calculus.specs.Meaning.{meets}
 use Rattle.calculus.specs.Decode.{transitionsFrom, actionWithin, formulaWithin}
 use Rattle.calculus.specs.Eval.{eval, rounds, tabulate, valuesBelow, anyTransition, departs}
-use Rattle.calculus.proofs.KeySheet.{K}
+use Rattle.calculus.specs.KeySheet.{K}
 use Rattle.reference.specs.Reference.{inMeaning, wordUpTo, meaningWord, Referring, referringOf}
 
 -- "P5: K, reference: 3."
