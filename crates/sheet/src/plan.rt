@@ -14,6 +14,7 @@ ghost use Rattle.sheet.specs.Fields.{transitionAt};
 ghost use Rattle.sheet.specs.Order.{stepAt, Stepping};
 ghost use Rattle.sheet.specs.Reading.{planCheck};
 
+// The plan's length, S and T are within their limits.
 fn sized(p: &[u8]) -> bool
     ensures { λ r. ⌜ r ≡ planSized (now (p .entry)) ⌝ }
 {
@@ -93,24 +94,28 @@ pub(crate) fn check_plan(p: &[u8]) -> Check
     }
 }
 
+// S, the number of states.
 pub fn state_count(plan: &[u8]) -> u8
     ensures { λ r. ⌜ r ≡ stateCount (now (plan .entry)) ⌝ }
 {
     narrow_at(plan, 0)
 }
 
+// A, the number of actions.
 pub fn action_count(plan: &[u8]) -> u8
     ensures { λ r. ⌜ r ≡ actionCount (now (plan .entry)) ⌝ }
 {
     narrow_at(plan, 1)
 }
 
+// T, the number of transitions.
 pub fn transition_count(plan: &[u8]) -> u16
     ensures { λ r. ⌜ r ≡ transitionCount (now (plan .entry)) ⌝ }
 {
     word_at(plan, 2) as u16
 }
 
+// Transition i: from, action, to.
 pub fn transition(plan: &[u8], i: u16) -> Transition
     ensures { λ r. ⌜ r ≡ transitionAt (now (plan .entry)) i ⌝ }
 {

@@ -11,13 +11,14 @@ use crate::bytes::fields_at;
 use crate::bytes::narrow_at;
 ghost use mathlib.Core.Path.{_≡_};
 ghost use mathlib.Core.Bool.{_&&_};
-ghost use Prim.Native.Nat.{_+_, _*_, _<_, _≤_};
+ghost use Prim.Native.Nat.{_+_, _<_, _≤_};
 ghost use lib.Dec.{eqb, ltb};
-ghost use Rattle.sheet.specs.Rule.{nodeCount, binderCount, bindersAbove, aboveAmong, ruleSized, nodeKind, nodeX, nodeY, childIs, syntaxFault, isBinder, bindersBefore, binderNode, partEnd, below, bindingFaulty, lowestBinding};
+ghost use Rattle.sheet.specs.Rule.{nodeCount, binderCount, bindersAbove, ruleSized, nodeKind, nodeX, nodeY, childIs, syntaxFault, isBinder, bindersBefore, binderNode, partEnd, below, bindingFaulty, lowestBinding};
 ghost use Rattle.sheet.specs.Parts.{NodeOf, Ended};
 ghost use Rattle.sheet.specs.Fields.{fieldsAt};
 ghost use Rattle.sheet.specs.Reading.{ruleCheck};
 
+// The rule's length and N are within their limits.
 fn sized(r: &[u8]) -> bool
     ensures { λ b. ⌜ b ≡ ruleSized (now (r .entry)) ⌝ }
 {
@@ -328,19 +329,21 @@ pub(crate) fn check_rule(entries: usize, r: &[u8]) -> Check
     Check::Passed
 }
 
+// N, the number of nodes.
 pub fn node_count(rule: &[u8]) -> u8
     ensures { λ r. ⌜ r ≡ nodeCount (now (rule .entry)) ⌝ }
 {
     narrow_at(rule, 0)
 }
 
+// Node n: kind, x, y.
 pub fn node(rule: &[u8], n: Node) -> Fields
     ensures { λ r. ⌜ r ≡ fieldsAt (now (rule .entry)) (n .0) ⌝ }
 {
     fields_at(rule, n.0)
 }
 
-// The number of binders.
+// B, the number of binders.
 pub fn binder_count(rule: &[u8]) -> u8
     ensures { λ r. ⌜ r ≡ binderCount (now (rule .entry)) ⌝ }
 {
