@@ -5,6 +5,7 @@ use crate::Refusal;
 use crate::State;
 use crate::Transition;
 use crate::bytes::byte_at;
+use crate::bytes::field_at;
 use crate::bytes::narrow_at;
 use crate::bytes::word_at;
 ghost use mathlib.Core.Path.{_≡_};
@@ -119,10 +120,10 @@ pub fn transition_count(plan: &[u8]) -> u16
 pub fn transition(plan: &[u8], i: u16) -> Transition
     ensures { λ r. ⌜ r ≡ transitionAt (now (plan .entry)) i ⌝ }
 {
-    let at = 3 * (i as usize);
+    let at = i as usize;
     Transition {
-        from: State(narrow_at(plan, 4 + at)),
-        action: Action(narrow_at(plan, 5 + at)),
-        to: State(narrow_at(plan, 6 + at)),
+        from: State(field_at(plan, 4, at)),
+        action: Action(field_at(plan, 5, at)),
+        to: State(field_at(plan, 6, at)),
     }
 }
