@@ -24,7 +24,7 @@ unfoldable pub actionsSized : List ℕ → Bool
 actionsSized a = leb 1 (length a) && (leb (entryCount a) 32 && eqb (length a) (1 + 3 * entryCount a))
 
 -- Entry e of kind k with fields x, y: "0 false, 1 true, 2 action x (x below A), 3 x or y, 4 x and y, 5 not x. Operands of
--- 3, 4, 5 are entry numbers below their own. Unused fields are 0."
+-- 3, 4, 5 are entry numbers below their own."; "Unused fields are 0."
 unfoldable pub entryRight : ℕ → ℕ → ℕ → ℕ → ℕ → Bool
 entryRight actions e k x y =
     pick (ltb k 2) (eqb x 0 && eqb y 0)
@@ -35,5 +35,6 @@ entryRight actions e k x y =
 unfoldable pub entryFaulty : ℕ → List ℕ → ℕ → Bool
 entryFaulty actions a e = not (entryRight actions e (entryKind a e) (entryX a e) (entryY a e))
 
+-- the place of refusal 7, "the lowest faulty .. entry"; the count where there is none
 abbrev pub lowestEntry : ℕ → List ℕ → ℕ
 lowestEntry actions a = lowest (entryFaulty actions a) (entryCount a)

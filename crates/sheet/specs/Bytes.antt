@@ -16,6 +16,7 @@ word s i = byte s i + 256 * byte s (i + 1)
 abbrev pub part : List ℕ → ℕ → ℕ → List ℕ
 part s offset size = take size (drop offset s)
 
+-- if b then x else y
 abbrev pub pick : {A : Type 0} → Bool → A → A → A
 pick true x y = x
 pick false x y = y

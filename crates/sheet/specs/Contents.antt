@@ -1,4 +1,5 @@
 -- Document 01, "The sheet": the table of contents and the three bodies.
+-- A sheet is the input file: a header (document 01's table of contents) and three sections (its bodies).
 use Prim.Native.Nat.{ℕ, _+_}
 use mathlib.Core.Bool.{Bool, _&&_}
 use mathlib.Core.List.{List}
@@ -50,6 +51,7 @@ contentsRight s =
     (entryIs s 7 2 (actionsOffset s) &&
     (entryIs s 12 3 (ruleOffset s) && (eqb (length s) (ruleOffset s + ruleLength s) && leb (length s) longest)))
 
+-- the three bodies: "Kind 1, plan", "Kind 2, action formulas", "Kind 3, rule"
 abbrev pub planBody : List ℕ → List ℕ
 planBody s = part s headLength (planLength s)
 

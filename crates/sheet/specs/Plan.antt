@@ -50,5 +50,6 @@ inRange p i = ltb (origin p i) (stateCount p) && (ltb (label p i) (actionCount p
 unfoldable pub transitionFaulty : List ℕ → ℕ → Bool
 transitionFaulty p i = not (inRange p i && rises p i)
 
+-- the place of refusal 5, "the lowest faulty transition"; T where there is none
 abbrev pub lowestTransition : List ℕ → ℕ
 lowestTransition p = lowest (transitionFaulty p) (transitionCount p)

@@ -1,6 +1,5 @@
 -- The reader: what it answers for every list of bytes.
 use Prim.Native.Nat.{ℕ}
-use mathlib.Core.Bool.{Bool}
 use mathlib.Core.List.{List}
 use lib.ListN.{length}
 use lib.Dec.{eqb, leb}
@@ -10,9 +9,6 @@ use Rattle.sheet.specs.Plan.{planSized, lowestTransition, transitionCoun
 use Rattle.sheet.specs.Actions.{actionsSized, lowestEntry, entryCount}
 use Rattle.sheet.specs.Rule.{ruleSized, syntaxFault, lowestBinding, nodeCount}
 use Rattle.sheet.specs.declared.Bodies.{Bodies}
-use Rattle.sheet.specs.declared.Part.{Part}
-use Rattle.sheet.specs.declared.Node.{Node}
-use Rattle.sheet.specs.declared.Refusal.{Refusal}
 use Rattle.sheet.specs.declared.Refusal.the-variants.{TooShort, Heading, Contents, PlanSize, TransitionFault, ActionsSize, EntryFault, RuleSize, SyntaxFault, BindingFault}
 use Rattle.sheet.specs.declared.Check.{Check}
 use Rattle.sheet.specs.declared.Check.the-variants.{Passed, Failed}
@@ -42,7 +38,7 @@ ruleCheck entries r =
 unfoldable pub bodiesCheck : List ℕ → List ℕ → List ℕ → Check
 bodiesCheck p a r = andThen (planCheck p) (andThen (actionsCheck (actionCount p) a) (ruleCheck (entryCount a) r))
 
--- refusals 1 to 10, of a sheet
+-- "Reader and guard check give 1 to 10": of a sheet
 unfoldable pub sheetCheck : List ℕ → Check
 sheetCheck s =
     andThen (require (leb headLength (length s)) TooShort)
@@ -61,6 +57,7 @@ abbrev pub answerRead : Bodies → Check → Read
 answerRead b Passed = Accepted b
 answerRead b (Failed r) = Refused r
 
+-- the answer for every list of bytes
 unfoldable pub readOf : List ℕ → Read
 readOf s = answerRead (bodiesOf s) (sheetCheck s)
 
@@ -71,6 +68,7 @@ pub record Reading : Type 0 where
   pub place : ℕ
   pub bodies : Bodies
 
+-- "offsets, lengths and any further result number 0"
 abbrev pub noBodies : Bodies
 noBodies = record {
   plan = record { offset = 0; length = 0 };

@@ -1,28 +1,45 @@
 -- Document 01, "Refusal numbers": the number and the place of each refusal, and the order in which they apply.
 use Prim.Native.Nat.{ℕ}
-use mathlib.Core.Bool.{Bool, true, false}
+use mathlib.Core.Bool.{Bool}
 use Rattle.sheet.specs.Bytes.{pick}
 use Rattle.sheet.specs.declared.Refusal.{Refusal}
 use Rattle.sheet.specs.declared.Refusal.the-variants.{TooShort, Heading, Contents, PlanSize, TransitionFault, ActionsSize, EntryFault, RuleSize, SyntaxFault, BindingFault, NoSuchState, Loop, TooManyStates, TableShort, TableByte, OutputShort}
 use Rattle.sheet.specs.declared.Check.{Check}
 use Rattle.sheet.specs.declared.Check.the-variants.{Passed, Failed}
 
+-- the number of each refusal, "From the input" and "From the state of what is lent"
 abbrev pub numberOf : Refusal → ℕ
+-- "1: under 17 bytes."
 numberOf TooShort = 1
+-- "2: byte 0 or 1 wrong."
 numberOf Heading = 2
+-- "3: table of contents not as above, the file longer or shorter than it says, or over 6,455 bytes (the longest sheet)."
 numberOf Contents = 3
+-- "4: plan shorter than 4 bytes, S or T outside its limits, or length not 4 + 3 × T."
 numberOf PlanSize = 4
+-- "5: a transition: a state or action out of range, or one that isn't above the one before it."
 numberOf (TransitionFault t) = 5
+-- "6: action table empty, count over 32, or length not 1 + 3 × count."
 numberOf ActionsSize = 6
+-- "7: an entry: its kind, action, operand or unused field."
 numberOf (EntryFault e) = 7
+-- "8: rule empty, N outside 1 to 64, or length not 1 + 3 × N."
 numberOf RuleSize = 8
+-- "9: a node's kind, field or child number."
 numberOf (SyntaxFault n) = 9
+-- "10: a binder number, a seventh binder, or a variable not below its binder."
 numberOf (BindingFault n) = 10
+-- "11: queried state not below S."
 numberOf NoSuchState = 11
+-- "12: the plan has a loop (query only)."
 numberOf Loop = 12
+-- "13: S over 64 (reference only)."
 numberOf TooManyStates = 13
+-- "20: table buffer too short."
 numberOf TableShort = 20
+-- "21: a table byte over 2 (query only)."
 numberOf TableByte = 21
+-- "22: output buffer too short (calls that write a sheet or a body)."
 numberOf OutputShort = 22
 
 -- "The place is the lowest faulty transition, entry or node for 5, 7, 10; for 9 the first fault met in preorder, a second child's number being looked

@@ -1,7 +1,7 @@
 -- Document 01, "Kind 3, rule": a state formula in preorder. The definitions speak of the body's bytes; entries is the
 -- number of action entries.
 use Prim.Native.Nat.{ℕ, zero, suc, _+_, _*_}
-use mathlib.Core.Bool.{Bool, true, false, not, _&&_}
+use mathlib.Core.Bool.{Bool, false, not, _&&_}
 use mathlib.Core.List.{List}
 use lib.ListN.{length}
 use lib.Dec.{eqb, ltb, leb}
@@ -41,12 +41,13 @@ shapeOf k =
 abbrev pub childIs : List ℕ → ℕ → ℕ → Bool
 childIs r c expected = eqb c expected && ltb expected (nodeCount r)
 
--- "a second child the first node after the first child's part": a fault in the first child's part stands; else y must be the node where that part ended
+-- "a second child the first node after the first child's part" (part: the node's subtree): a fault in the first child's part stands; else y must be the
+-- node where that part ended
 abbrev pub second : (ℕ → Extent) → List ℕ → ℕ → Extent → Extent
 second go r n (Faulty m) = Faulty m
 second go r n (Ends e) = pick (childIs r (nodeY r n) e) (go e) (Faulty n)
 
--- The part of node n, where go gives the part of a later node: the node after it, or the first fault met in preorder. "A first or only child is the
+-- The part of node n, where go gives the part of a later node: the node after it, or the first fault met in preorder. "a first or only child is the
 -- next node"; "Unused fields are 0"; the entry of a modality is below the count; "a second child's number being looked at after the first child's
 -- part"; "a missing child the fault of its parent". The x of a variable and of a binder is left to refusal 10.
 abbrev pub course : (ℕ → Extent) → ℕ → List ℕ → ℕ → Shape → Extent
@@ -62,7 +63,8 @@ unfoldable pub extent : ℕ → ℕ → List ℕ → ℕ → Extent
 extent zero entries r n = Faulty n
 extent (suc depth) entries r n = course (extent depth entries r) entries r n (shapeOf (nodeKind r n))
 
--- the first fault met in preorder: "nothing follows the root's part", "a node left over being faulty itself"; N where there is none
+-- the first fault met in preorder, or N where there is none: a fault in the root's part; else the node where that part ends, which before N is
+-- "a node left over being faulty itself" ("nothing follows the root's part")
 abbrev pub firstFault : Extent → ℕ
 firstFault (Faulty m) = m
 firstFault (Ends e) = e
@@ -72,6 +74,7 @@ syntaxFault entries r = firstFault (extent (nodeCount r) entries r 0)
 
 -- ---- refusal 10: "a binder number, a seventh binder, or a variable not below its binder"
 
+-- "Binders (kinds 7, 8)": fixed point operators
 abbrev pub isBinder : List ℕ → ℕ → Bool
 isBinder r n = leb 7 (nodeKind r n) && ltb (nodeKind r n) 9
 
@@ -83,7 +86,7 @@ unfoldable pub bindersBefore : List ℕ → ℕ → ℕ
 bindersBefore r zero = 0
 bindersBefore r (suc n) = bindersBefore r n + oneIf (isBinder r n)
 
--- B, the number of binders
+-- "B, their number"
 abbrev pub binderCount : List ℕ → ℕ
 binderCount r = bindersBefore r (nodeCount r)
 
@@ -115,6 +118,7 @@ partEnd r n = endWithin 64 r n
 abbrev pub below : List ℕ → ℕ → ℕ → Bool
 below r b n = ltb b n && ltb n (partEnd r b)
 
+-- a variable: "A variable node stands below its binder."; a binder: "bind variables 0, 1, 2 and so on; B, their number, is at most 6"
 abbrev pub bindingWrong : List ℕ → ℕ → Shape → Bool
 bindingWrong r n leaf = false
 bindingWrong r n pair = false
@@ -123,9 +127,11 @@ bindingWrong r n variable = not (below r (binderNode r (nodeX r n)) n)
 bindingWrong r n binder = not (eqb (nodeX r n) (bindersBefore r n) && ltb (bindersBefore r n) 6)
 bindingWrong r n unknown = false
 
+-- node n breaks a rule of refusal 10
 unfoldable pub bindingFaulty : List ℕ → ℕ → Bool
 bindingFaulty r n = bindingWrong r n (shapeOf (nodeKind r n))
 
+-- the place of refusal 10, "the lowest faulty .. node"; N where there is none
 abbrev pub lowestBinding : List ℕ → ℕ
 lowestBinding r = lowest (bindingFaulty r) (nodeCount r)
 

@@ -7,7 +7,7 @@ use mathlib.Core.List.{List}
 use mathlib.Core.Logic.{_⊎_}
 use lib.ListN.{length}
 use Rattle.sheet.specs.Bytes.{byte, word}
-use Rattle.sheet.specs.Contents.{headLength, longest, planLength, actionsLength, ruleLength, actionsOffset, ruleOffset, planBody, actionsBody, ruleBody}
+use Rattle.sheet.specs.Contents.{headLength, ruleLength, actionsOffset, ruleOffset, planBody, actionsBody, ruleBody}
 use Rattle.sheet.specs.Plan.{stateCount, actionCount, transitionCount, origin, label, target}
 use Rattle.sheet.specs.Actions.{entryCount, entryKind, entryX, entryY}
 use Rattle.sheet.specs.Rule.{nodeCount, nodeKind, nodeX, nodeY, isBinder, bindersBefore, binderCount}
@@ -19,7 +19,7 @@ abbrev pub Before : ℕ → ℕ → ℕ → ℕ → ℕ → ℕ → Type 0
 Before f a t f′ a′ t′ = (f < f′) ⊎ ((f ≡ f′) × ((a < a′) ⊎ ((a ≡ a′) × (t < t′))))
 
 pub record PlanKept (p : List ℕ) : Type 0 where
-  -- "S (1 byte, 1 to 128 states), A (1 byte, 0 to 255 actions), T (16 bits, 0 to 2,048)"
+  -- "S (1 byte, 1 to 128 states), A (1 byte, 0 to 255 actions), T (16 bits, 0 to 2,048)"; A needs no rule, a byte being 0 to 255
   pub headed : 4 ≤ length p
   pub some-states : 1 ≤ stateCount p
   pub few-states : stateCount p ≤ 128
@@ -35,7 +35,7 @@ pub record PlanKept (p : List ℕ) : Type 0 where
 
 -- ---- action formulas
 
--- "Kinds: 0 false, 1 true, 2 action x (x below A), 3 x or y, 4 x and y, 5 not x. Operands of 3, 4, 5 are entry numbers below their own. Unused fields are 0."
+-- "Kinds: 0 false, 1 true, 2 action x (x below A), 3 x or y, 4 x and y, 5 not x. Operands of 3, 4, 5 are entry numbers below their own."; "Unused fields are 0."
 pub data EntryKept (actions : ℕ) (a : List ℕ) (e : ℕ) : Type 0 where
   constant : entryKind a e ≤ 1 → entryX a e ≡ 0 → entryY a e ≡ 0 → EntryKept actions a e
   action : entryKind a e ≡ 2 → entryX a e < actions → entryY a e ≡ 0 → EntryKept actions a e
@@ -52,7 +52,8 @@ pub record ActionsKept (actions : ℕ) (a : List ℕ) : Type 0 where
 -- ---- rule
 
 -- The nodes from n up to e are the part of node n. "Nodes stand in preorder, node 0 the root: a first or only child is the next node, a second child the
--- first node after the first child's part". "Unused fields are 0." That e is at most N is said where the part is used: past its end a body reads as 0.
+-- first node after the first child's part". "Unused fields are 0." Past its end a body reads as 0, so a part may run past N; in a rule that keeps RuleKept none does,
+-- since the root's part ends at N and a node has one part.
 pub data Part (entries : ℕ) (r : List ℕ) : ℕ → ℕ → Type 0 where
   constant : {n : ℕ} → nodeKind r n ≤ 1 → nodeX r n ≡ 0 → nodeY r n ≡ 0 → Part entries r n (suc n)
   variable : {n : ℕ} → nodeKind r n ≡ 6 → nodeY r n ≡ 0 → Part entries r n (suc n)
@@ -73,6 +74,7 @@ pub record Binds (r : List ℕ) (b k : ℕ) : Type 0 where
   pub is-binder : isBinder r b ≡ true
   pub numbered : bindersBefore r b ≡ k
 
+-- variable node n has a binder, and stands below it
 pub record Bound (entries : ℕ) (r : List ℕ) (n : ℕ) : Type 0 where
   pub at : ℕ
   pub binds : Binds r at (nodeX r n)
@@ -95,12 +97,14 @@ pub record RuleKept (entries : ℕ) (r : List ℕ) : Type 0 where
 
 -- ---- sheet
 
+-- three bodies that go together: A of the plan for the actions, the count of the actions for the rule
 pub record BodiesKept (p a r : List ℕ) : Type 0 where
   pub plan-kept : PlanKept p
   pub actions-kept : ActionsKept (actionCount p) a
   pub rule-kept : RuleKept (entryCount a) r
 
 pub record SheetKept (s : List ℕ) : Type 0 where
+  -- two bytes, "Then three entries of 5 bytes"
   pub headed : headLength ≤ length s
   -- "Byte 0 is 1 (edition), byte 1 is 3 (entries)."
   pub edition : byte s 0 ≡ 1

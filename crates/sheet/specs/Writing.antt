@@ -1,6 +1,5 @@
 -- The writer: the sheet that three bodies make, and what the writer answers and leaves in the output buffer.
 use Prim.Native.Nat.{ℕ, _+_, _/_, _%_, _<_, _≤_}
-use mathlib.Core.Bool.{Bool}
 use mathlib.Core.List.{List, [], _∷_, _++_}
 use lib.ListN.{length, drop}
 use lib.Dec.{leb}
@@ -26,10 +25,11 @@ abbrev pub head : ℕ → ℕ → ℕ → List ℕ
 head p a r =
     1 ∷ 3 ∷ contentsEntry 1 headLength p (contentsEntry 2 (headLength + p) a (contentsEntry 3 (headLength + p + a) r []))
 
--- the sheet made from three bodies
+-- "The writer takes the three bodies": the sheet they make
 unfoldable pub sheetOf : List ℕ → List ℕ → List ℕ → List ℕ
 sheetOf p a r = head (length p) (length a) (length r) ++ (p ++ (a ++ r))
 
+-- "gives the length"
 abbrev pub sheetLength : List ℕ → List ℕ → List ℕ → ℕ
 sheetLength p a r = headLength + length p + length a + length r
 
@@ -51,7 +51,7 @@ answerWritten size (Failed r) = Declined r
 unfoldable pub writtenOf : List ℕ → List ℕ → List ℕ → ℕ → Written
 writtenOf p a r room = answerWritten (sheetLength p a r) (writeCheck p a r room)
 
--- the output buffer: the sheet and, past its length, what stood there; all unchanged on a refusal
+-- the output buffer: the sheet, and "bytes past it are unchanged"; a refused call "changes no buffer"
 abbrev pub leaves : List ℕ → List ℕ → Check → List ℕ
 leaves sheet out Passed = sheet ++ drop (length sheet) out
 leaves sheet out (Failed r) = out

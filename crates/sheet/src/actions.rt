@@ -7,12 +7,13 @@ use crate::bytes::fields_at;
 use crate::bytes::narrow_at;
 ghost use mathlib.Core.Path.{_≡_};
 ghost use mathlib.Core.Bool.{_&&_};
-ghost use Prim.Native.Nat.{_+_, _*_, _<_, _≤_};
+ghost use Prim.Native.Nat.{_<_};
 ghost use lib.Dec.{eqb, ltb};
 ghost use Rattle.sheet.specs.Actions.{entryCount, actionsSized, entryRight, entryFaulty, lowestEntry};
 ghost use Rattle.sheet.specs.Fields.{fieldsAt};
 ghost use Rattle.sheet.specs.Reading.{actionsCheck};
 
+// The table's length and count are within their limits.
 fn sized(a: &[u8]) -> bool
     ensures { λ r. ⌜ r ≡ actionsSized (now (a .entry)) ⌝ }
 {
@@ -106,12 +107,14 @@ pub(crate) fn check_actions(actions: usize, a: &[u8]) -> Check
     }
 }
 
+// The number of action entries.
 pub fn entry_count(actions: &[u8]) -> u8
     ensures { λ r. ⌜ r ≡ entryCount (now (actions .entry)) ⌝ }
 {
     narrow_at(actions, 0)
 }
 
+// Entry e: kind, x, y.
 pub fn entry(actions: &[u8], e: u8) -> Fields
     ensures { λ r. ⌜ r ≡ fieldsAt (now (actions .entry)) e ⌝ }
 {

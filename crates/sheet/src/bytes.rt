@@ -1,7 +1,7 @@
 // Bytes, 16-bit fields and parts of a list of bytes; each is total.
 use crate::Fields;
 ghost use mathlib.Core.Path.{_≡_};
-ghost use Prim.Native.Nat.{_<_};
+ghost use Prim.Native.Nat.{_+_, _*_, _<_};
 ghost use lib.ListN.{length};
 ghost use Rattle.sheet.specs.Bytes.{byte, word, part};
 ghost use Rattle.sheet.specs.Fields.{fieldsAt};
@@ -53,14 +53,22 @@ pub(crate) fn narrow_at(s: &[u8], i: usize) -> u8
     if i < s.len() { s[i] } else { 0 }
 }
 
+// A byte of item i, where items of three bytes follow one another and base is that byte's place in item 0.
+pub(crate) fn field_at(s: &[u8], base: usize, i: usize) -> u8
+    requires { ⌜ (base < 256) × (i < 65536) ⌝ }
+    ensures { λ r. ⌜ r ≡ byte (now (s .entry)) (base + 3 * i) ⌝ }
+{
+    narrow_at(s, base + 3 * i)
+}
+
 // The three bytes of entry or node i of a body.
 pub(crate) fn fields_at(body: &[u8], i: u8) -> Fields
     ensures { λ r. ⌜ r ≡ fieldsAt (now (body .entry)) i ⌝ }
 {
-    let at = 3 * (i as usize);
+    let at = i as usize;
     Fields {
-        kind: narrow_at(body, 1 + at),
-        x: narrow_at(body, 2 + at),
-        y: narrow_at(body, 3 + at),
+        kind: field_at(body, 1, at),
+        x: field_at(body, 2, at),
+        y: field_at(body, 3, at),
     }
 }

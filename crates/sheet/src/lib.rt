@@ -54,6 +54,7 @@ pub enum Refusal {
 }
 
 impl Refusal {
+    // The number of the refusal.
     pub fn number(self) -> u8
         ensures { λ r. ⌜ r ≡ numberOf self ⌝ }
     {
@@ -77,6 +78,7 @@ impl Refusal {
         }
     }
 
+    // The faulty transition, entry or node, or 0.
     pub fn place(self) -> u16
         ensures { λ r. ⌜ r ≡ placeOf self ⌝ }
     {
@@ -119,6 +121,7 @@ pub struct Part {
     pub length: usize,
 }
 
+// Where the three bodies lie.
 pub struct Bodies {
     pub plan: Part,
     pub actions: Part,

@@ -6,6 +6,7 @@ use crate::State;
 use crate::Transition;
 use crate::bytes::byte_at;
 use crate::bytes::byte_in;
+use crate::bytes::field_at;
 use crate::bytes::narrow_at;
 use crate::bytes::word_at;
 ghost use mathlib.Core.Path.{_≡_};
@@ -16,6 +17,7 @@ ghost use Rattle.sheet.specs.Fields.{transitionAt};
 ghost use Rattle.sheet.specs.Order.{stepAt, Stepping};
 ghost use Rattle.sheet.specs.Reading.{planCheck};
 
+// The plan's length, S and T are within their limits.
 fn sized(p: &[u8]) -> bool
     ensures { λ r. ⌜ r ≡ planSized (now (p .entry)) ⌝ }
 {
@@ -96,31 +98,35 @@ pub(crate) fn check_plan(p: &[u8]) -> Check
     }
 }
 
+// S, the number of states.
 pub fn state_count(plan: &[u8]) -> u8
     ensures { λ r. ⌜ r ≡ stateCount (now (plan .entry)) ⌝ }
 {
     narrow_at(plan, 0)
 }
 
+// A, the number of actions.
 pub fn action_count(plan: &[u8]) -> u8
     ensures { λ r. ⌜ r ≡ actionCount (now (plan .entry)) ⌝ }
 {
     narrow_at(plan, 1)
 }
 
+// T, the number of transitions.
 pub fn transition_count(plan: &[u8]) -> u16
     ensures { λ r. ⌜ r ≡ transitionCount (now (plan .entry)) ⌝ }
 {
     word_at(plan, 2) as u16
 }
 
+// Transition i: from, action, to.
 pub fn transition(plan: &[u8], i: u16) -> Transition
     ensures { λ r. ⌜ r ≡ transitionAt (now (plan .entry)) i ⌝ }
 {
-    let at = 3 * (i as usize);
+    let at = i as usize;
     Transition {
-        from: State(narrow_at(plan, 4 + at)),
-        action: Action(narrow_at(plan, 5 + at)),
-        to: State(narrow_at(plan, 6 + at)),
+        from: State(field_at(plan, 4, at)),
+        action: Action(field_at(plan, 5, at)),
+        to: State(field_at(plan, 6, at)),
     }
 }

@@ -12,7 +12,7 @@ use crate::contents::check_in_order;
 use crate::plan::check_plan;
 use crate::rule::check_rule;
 ghost use mathlib.Core.Path.{_≡_};
-ghost use Prim.Native.Nat.{_+_, _≤_, _<_};
+ghost use Prim.Native.Nat.{_<_};
 ghost use Rattle.sheet.specs.Refusals.{reportedCheck};
 ghost use Rattle.sheet.specs.Contents.{headingRight, entryIs, contentsRight, planBody, actionsBody, ruleBody};
 ghost use Rattle.sheet.specs.Reading.{bodiesCheck, sheetCheck, bodiesOf, readOf, reported, readingOf};

@@ -11,13 +11,14 @@ use crate::bytes::fields_at;
 use crate::bytes::narrow_at;
 ghost use mathlib.Core.Path.{_≡_};
 ghost use mathlib.Core.Bool.{_&&_};
-ghost use Prim.Native.Nat.{_+_, _*_, _<_, _≤_};
+ghost use Prim.Native.Nat.{_+_, _<_, _≤_};
 ghost use lib.Dec.{eqb, ltb};
-ghost use Rattle.sheet.specs.Rule.{nodeCount, binderCount, bindersAbove, aboveAmong, ruleSized, nodeKind, nodeX, nodeY, childIs, syntaxFault, isBinder, bindersBefore, binderNode, partEnd, below, bindingFaulty, lowestBinding};
+ghost use Rattle.sheet.specs.Rule.{nodeCount, binderCount, bindersAbove, ruleSized, nodeKind, nodeX, nodeY, childIs, syntaxFault, isBinder, bindersBefore, binderNode, partEnd, below, bindingFaulty, lowestBinding};
 ghost use Rattle.sheet.specs.Parts.{NodeOf, Ended};
 ghost use Rattle.sheet.specs.Fields.{fieldsAt};
 ghost use Rattle.sheet.specs.Reading.{ruleCheck};
 
+// The rule's length and N are within their limits.
 fn sized(r: &[u8]) -> bool
     ensures { λ b. ⌜ b ≡ ruleSized (now (r .entry)) ⌝ }
 {
@@ -195,39 +196,21 @@ fn binders_before(r: &[u8], n: usize) -> usize
     binders
 }
 
-fn is_binder_of(r: &[u8], n: usize, binders: usize, k: usize) -> bool
-    requires { ⌜ n < 65536 ⌝ }
-    ensures { λ b. ⌜ b ≡ (isBinder (now (r .entry)) n && eqb binders k) ⌝ }
+// Whether node n binds variable k; binders is the number of binders before it.
+fn is_binder_of(r: &[u8], n: Node, binders: usize, k: Variable) -> bool
+    ensures { λ b. ⌜ b ≡ (isBinder (now (r .entry)) (n .0) && eqb binders (k .0)) ⌝ }
 {
-    if is_binder(r, n) {
-        return binders == k;
+    if is_binder(r, n.0 as usize) {
+        return binders == k.0 as usize;
     }
     false
 }
 
-// The node of binder k, or the number of nodes where there is none.
-fn binder_at(r: &[u8], k: usize) -> usize
-    ensures { λ n. ⌜ (n ≡ binderNode (now (r .entry)) k) × (n < 256) ⌝ }
+// The place just after node n's part, where its last child's part ends: it may be no node, so it stays a plain number.
+fn end_of(r: &[u8], n: Node) -> usize
+    ensures { λ e. ⌜ e ≡ partEnd (now (r .entry)) (n .0) ⌝ }
 {
-    let count = byte_at(r, 0);
-    let mut binders = 0;
-    let mut n = 0;
-    while n < count {
-        if is_binder_of(r, n, binders, k) {
-            return n;
-        }
-        binders = binders_with(r, n, binders);
-        n += 1;
-    }
-    n
-}
-
-// The first node after node n's part: that of its last child.
-fn end_of(r: &[u8], n: usize) -> usize
-    requires { ⌜ n < 256 ⌝ }
-    ensures { λ e. ⌜ e ≡ partEnd (now (r .entry)) n ⌝ }
-{
-    let mut at = n;
+    let mut at = n.0 as usize;
     let mut left: usize = 64;
     while 0 < left {
         left -= 1;
@@ -251,17 +234,18 @@ fn end_of(r: &[u8], n: usize) -> usize
 }
 
 // Whether the variable or binder node n breaks the rules of binding; binders is the number of binders before it.
-fn binding_faulty(r: &[u8], n: usize, binders: usize) -> bool
-    requires { ⌜ (n < 256) × (binders ≡ bindersBefore (now r) n) ⌝ }
-    ensures { λ b. ⌜ b ≡ bindingFaulty (now (r .entry)) n ⌝ }
+fn binding_faulty(r: &[u8], n: Node, binders: usize) -> bool
+    requires { ⌜ binders ≡ bindersBefore (now r) (n .0) ⌝ }
+    ensures { λ b. ⌜ b ≡ bindingFaulty (now (r .entry)) (n .0) ⌝ }
 {
-    let k = kind_at(r, n);
+    let at = n.0 as usize;
+    let k = kind_at(r, at);
     if k < 6 {
         return false;
     }
-    let x = x_at(r, n);
+    let x = x_at(r, at);
     if k == 6 {
-        return !stands_below(r, binder_at(r, x), n);
+        return !is_below(r, binder_node(r, Variable(x as u8)), n);
     }
     if 8 < k {
         return false;
@@ -272,16 +256,6 @@ fn binding_faulty(r: &[u8], n: usize, binders: usize) -> bool
     true
 }
 
-fn stands_below(r: &[u8], b: usize, n: usize) -> bool
-    requires { ⌜ b < 256 ⌝ }
-    ensures { λ d. ⌜ d ≡ below (now (r .entry)) b n ⌝ }
-{
-    if b < n {
-        return n < end_of(r, b);
-    }
-    false
-}
-
 // The lowest node that breaks the rules of binding, or the number of nodes.
 fn lowest_faulty(r: &[u8]) -> usize
     ensures { λ n. ⌜ (n ≡ lowestBinding (now (r .entry))) × (n < 256) ⌝ }
@@ -290,7 +264,7 @@ fn lowest_faulty(r: &[u8]) -> usize
     let mut binders = 0;
     let mut n = 0;
     while n < count {
-        if binding_faulty(r, n, binders) {
+        if binding_faulty(r, Node(n as u8), binders) {
             return n;
         }
         binders = binders_with(r, n, binders);
@@ -328,19 +302,21 @@ pub(crate) fn check_rule(entries: usize, r: &[u8]) -> Check
     Check::Passed
 }
 
+// N, the number of nodes.
 pub fn node_count(rule: &[u8]) -> u8
     ensures { λ r. ⌜ r ≡ nodeCount (now (rule .entry)) ⌝ }
 {
     narrow_at(rule, 0)
 }
 
+// Node n: kind, x, y.
 pub fn node(rule: &[u8], n: Node) -> Fields
     ensures { λ r. ⌜ r ≡ fieldsAt (now (rule .entry)) (n .0) ⌝ }
 {
     fields_at(rule, n.0)
 }
 
-// The number of binders.
+// B, the number of binders.
 pub fn binder_count(rule: &[u8]) -> u8
     ensures { λ r. ⌜ r ≡ binderCount (now (rule .entry)) ⌝ }
 {
@@ -351,22 +327,35 @@ pub fn binder_count(rule: &[u8]) -> u8
 pub fn binder_node(rule: &[u8], k: Variable) -> Node
     ensures { λ r. ⌜ r .0 ≡ binderNode (now (rule .entry)) (k .0) ⌝ }
 {
-    Node(binder_at(rule, k.0 as usize) as u8)
+    let count = byte_at(rule, 0);
+    let mut binders = 0;
+    let mut n = 0;
+    while n < count {
+        if is_binder_of(rule, Node(n as u8), binders, k) {
+            return Node(n as u8);
+        }
+        binders = binders_with(rule, n, binders);
+        n += 1;
+    }
+    Node(n as u8)
 }
 
 // Whether node n stands below node b.
 pub fn is_below(rule: &[u8], b: Node, n: Node) -> bool
     ensures { λ r. ⌜ r ≡ below (now (rule .entry)) (b .0) (n .0) ⌝ }
 {
-    stands_below(rule, b.0 as usize, n.0 as usize)
+    if b.0 < n.0 {
+        return (n.0 as usize) < end_of(rule, b);
+    }
+    false
 }
 
-fn binder_above(r: &[u8], b: usize, n: usize) -> bool
-    requires { ⌜ b < 256 ⌝ }
-    ensures { λ d. ⌜ d ≡ (isBinder (now (r .entry)) b && below (now (r .entry)) b n) ⌝ }
+// Whether node b is a binder that node n stands below.
+fn binder_above(r: &[u8], b: Node, n: Node) -> bool
+    ensures { λ d. ⌜ d ≡ (isBinder (now (r .entry)) (b .0) && below (now (r .entry)) (b .0) (n .0)) ⌝ }
 {
-    if is_binder(r, b) {
-        return stands_below(r, b, n);
+    if is_binder(r, b.0 as usize) {
+        return is_below(r, b, n);
     }
     false
 }
@@ -379,7 +368,7 @@ pub fn binders_above(rule: &[u8], n: Node) -> u8
     let mut above: u8 = 0;
     let mut b = 0;
     while b < node {
-        if binder_above(rule, b, node) {
+        if binder_above(rule, Node(b as u8), n) {
             above += 1;
             b += 1;
             continue;

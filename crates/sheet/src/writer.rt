@@ -38,6 +38,7 @@ fn head_of(p: usize, a: usize, r: usize) -> [u8; 17]
     ]
 }
 
+// The bytes of src, put into out from a place on.
 fn copy_at(out: &mut [u8], at: usize, src: &[u8])
     requires { ⌜ at + length (now src) ≤ length (now out) ⌝ }
     ensures { λ _. ⌜ now (out .exit) ≡ paste (now (out .entry)) at (now (src .entry)) (length (now (src .entry))) ⌝ }
@@ -61,6 +62,7 @@ fn put_sheet(p: &[u8], a: &[u8], r: &[u8], out: &mut [u8])
     copy_at(out, 17 + p.len() + a.len(), r);
 }
 
+// The sheet of three bodies, at the front of out, and its length; or the refusal, with out unchanged.
 pub fn write(plan: &[u8], actions: &[u8], rule: &[u8], out: &mut [u8]) -> Written
     ensures { λ r. ⌜ r ≡ writtenOf (now (plan .entry)) (now (actions .entry)) (now (rule .entry)) (length (now (out .entry))) ⌝ }
     ensures { λ r. ⌜ reportedWriting r ≡ writingOf (now (plan .entry)) (now (actions .entry)) (now (rule .entry)) (length (now (out .entry))) ⌝ }

@@ -1,6 +1,7 @@
 -- `sheet::rule::binders_above` meets its contract.
+use borrow.Author.Needs.{needs}
 use mathlib.Core.Path.{_≡_, sym, ap, _∙_}
-use Prim.Native.Nat.{ℕ, _-_, _+_, _≤_, _<_}
+use Prim.Native.Nat.{ℕ, _-_, _+_, _≤_}
 use native.Mathlib.Omega.{arith}
 use Rattle.sheet.specs.Rule.{aboveAmong}
 use Rattle.sheet.proofs.NodeSteps.{above-none, above-more, above-same}
@@ -8,10 +9,10 @@ use Rattle.sheet.proofs.rule.binders_above.Statement.{statement}
 use Rattle.sheet.proofs.rule.binders_above.Tie as tie
 
 abbrev Inv-loop : tie.InvT-loop
-Inv-loop rule node above₀ b₀ above b = (b ≤ node) × (above ≡ aboveAmong rule node b) × (above ≤ b)
+Inv-loop rule n node above₀ b₀ above b = (b ≤ node) × (above ≡ aboveAmong rule node b) × (above ≤ b)
 
 abbrev μ-loop : tie.MeasureT-loop
-μ-loop rule node above₀ b₀ above b = node - b
+μ-loop rule n node above₀ b₀ above b = node - b
 
 cast-node : tie.Need-cast-node Inv-loop μ-loop
 cast-node c = omega arith
@@ -19,8 +20,11 @@ cast-node c = omega arith
 loop-holds : tie.Need-loop-holds Inv-loop μ-loop
 loop-holds c = (omega arith, above-none _ _ 0, omega arith)
 
+cast-t8 : tie.Need-cast-t8 Inv-loop μ-loop
+cast-t8 c = omega arith
+
 binder-above-requires : tie.Need-binder-above-requires Inv-loop μ-loop
-binder-above-requires c κs = omega arith
+binder-above-requires c κs = search needs
 
 add-above : tie.Need-add-above Inv-loop μ-loop
 add-above c = omega arith
@@ -54,6 +58,7 @@ binders-above-spec =
     μ-loop
     cast-node
     loop-holds
+    cast-t8
     binder-above-requires
     add-above
     add-b

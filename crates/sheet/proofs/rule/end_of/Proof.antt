@@ -1,5 +1,5 @@
 -- `sheet::rule::end_of` meets its contract. Of the loop: what is left of the way gives the same end.
-use mathlib.Core.Path.{_≡_, refl, sym, ap, _∙_}
+use mathlib.Core.Path.{_≡_, refl, _∙_}
 use Prim.Native.Nat.{_-_, _+_, _≤_, _<_}
 use native.Mathlib.Omega.{arith}
 use Rattle.sheet.specs.Rule.{endWithin, partEnd}
@@ -8,10 +8,13 @@ use Rattle.sheet.proofs.rule.end_of.Statement.{statement}
 use Rattle.sheet.proofs.rule.end_of.Tie as tie
 
 abbrev Inv-loop : tie.InvT-loop
-Inv-loop r n at₀ left₀ at left = (left ≤ 64) × (at < 256 + (64 - left)) × (endWithin left r at ≡ partEnd r n)
+Inv-loop r at₀ left₀ at left = (left ≤ 64) × (at < 256 + (64 - left)) × (endWithin left r at ≡ partEnd r at₀)
 
 abbrev μ-loop : tie.MeasureT-loop
-μ-loop r n at₀ left₀ at left = left
+μ-loop r at₀ left₀ at left = left
+
+cast-at : tie.Need-cast-at Inv-loop μ-loop
+cast-at c = omega arith
 
 loop-holds : tie.Need-loop-holds Inv-loop μ-loop
 loop-holds c = (omega arith, omega arith, refl)
@@ -68,6 +71,7 @@ end-of-spec =
     (tie.spec
     Inv-loop
     μ-loop
+    cast-at
     loop-holds
     sub-left
     kind-at-requires

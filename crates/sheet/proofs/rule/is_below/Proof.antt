@@ -1,22 +1,20 @@
 -- `sheet::rule::is_below` meets its contract.
 use borrow.Author.Needs.{needs}
-use native.Mathlib.Omega.{arith}
-use mathlib.Core.Path.{sym, ap, _∙_}
+use borrow.Author.Tests.{lt-ltb, le-ltb}
 use Rattle.sheet.proofs.rule.is_below.Statement.{statement}
 use Rattle.sheet.proofs.rule.is_below.Tie as tie
 
-cast-stands-below : tie.Need-cast-stands-below
-cast-stands-below c = search needs
+cast-result : tie.Need-cast-result
+cast-result c = search needs
 
-cast-stands-below-2 : tie.Need-cast-stands-below-2
-cast-stands-below-2 c = search needs
-
-stands-below-requires : tie.Need-stands-below-requires
-stands-below-requires c κs = search needs
+end-of-requires : tie.Need-end-of-requires
+end-of-requires c κs = search needs
 
 returns : tie.Need-returns
-returns c = c .stands-below .ensures
+returns c = rw (c .end-of .ensures, lt-ltb _ _ (c .before .before .if1 .taken))
+
+returns-2 : tie.Need-returns-2
+returns-2 c = rw (le-ltb _ _ (c .if1 .left))
 
 pub is-below-spec : {M : Type 1} → statement M
-is-below-spec =
-    tie.close (tie.spec cast-stands-below cast-stands-below-2 stands-below-requires returns)
+is-below-spec = tie.close (tie.spec cast-result end-of-requires returns returns-2)

@@ -1,7 +1,7 @@
 -- `sheet::rule::lowest_faulty` meets its contract. Of the loop: no node below n breaks the rules of binding.
 use borrow.Author.Needs.{needs}
-use mathlib.Core.Path.{_≡_, refl, sym, ap, _∙_}
-use Prim.Native.Nat.{_-_, _+_, _≤_, _<_}
+use mathlib.Core.Path.{_≡_, sym, _∙_}
+use Prim.Native.Nat.{_-_, _≤_}
 use native.Mathlib.Omega.{arith}
 use Rattle.sheet.specs.Bytes.{lowestFrom}
 use Rattle.sheet.specs.Rule.{bindersBefore, bindingFaulty, lowestBinding}
@@ -22,8 +22,11 @@ byte-at-requires c κs = search needs
 loop-holds : tie.Need-loop-holds Inv-loop μ-loop
 loop-holds c = (omega arith, before-none _ 0, omega arith, search-start _ _ _ (c .byte-at .ensures .0))
 
+cast-t7 : tie.Need-cast-t7 Inv-loop μ-loop
+cast-t7 c = omega arith
+
 binding-faulty-requires : tie.Need-binding-faulty-requires Inv-loop μ-loop
-binding-faulty-requires c κs = (omega arith, c .before .loop .inv .1)
+binding-faulty-requires c κs = c .before .loop .inv .1
 
 returns : tie.Need-returns Inv-loop μ-loop
 returns c = (search-here _ _ _ _ (omega arith) (sym (c .before .binding-faulty .ensures) ∙ c .if1 .taken) (c .before .before .before .loop .inv .3), omega arith)
@@ -51,6 +54,7 @@ lowest-faulty-spec =
     μ-loop
     byte-at-requires
     loop-holds
+    cast-t7
     binding-faulty-requires
     returns
     binders-with-requires

@@ -1,23 +1,20 @@
--- `sheet::rule::binder_at` meets its contract. Of the loop: no node below n is binder k.
+-- `sheet::rule::binder_node` meets its contract. Of the loop: no node below n is binder k.
 use borrow.Author.Needs.{needs}
-use mathlib.Core.Path.{_≡_, refl, sym, ap, _∙_}
-use Prim.Native.Nat.{_-_, _+_, _≤_, _<_}
+use mathlib.Core.Path.{_≡_, sym, _∙_}
+use Prim.Native.Nat.{_-_, _≤_}
 use native.Mathlib.Omega.{arith}
 use Rattle.sheet.specs.Bytes.{lowestFrom}
 use Rattle.sheet.specs.Rule.{bindersBefore, binderNode, bindsAt}
 use Rattle.sheet.proofs.Lowest.{search-start, search-here, search-next, search-end}
 use Rattle.sheet.proofs.NodeSteps.{before-none}
-use lib.Dec.{eqb}
-use mathlib.Core.Bool.{_&&_}
-use Prim.Native.Nat.{ℕ}
-use Rattle.sheet.proofs.rule.binder_at.Statement.{statement}
-use Rattle.sheet.proofs.rule.binder_at.Tie as tie
+use Rattle.sheet.proofs.rule.binder_node.Statement.{statement}
+use Rattle.sheet.proofs.rule.binder_node.Tie as tie
 
 abbrev Inv-loop : tie.InvT-loop
-Inv-loop r k count binders₀ n₀ binders n = (n ≤ count) × (binders ≡ bindersBefore r n) × (binders ≤ n) × (lowestFrom (bindsAt r k) (count - n) n ≡ binderNode r k)
+Inv-loop rule k count binders₀ n₀ binders n = (n ≤ count) × (binders ≡ bindersBefore rule n) × (binders ≤ n) × (lowestFrom (bindsAt rule (k .0)) (count - n) n ≡ binderNode rule (k .0))
 
 abbrev μ-loop : tie.MeasureT-loop
-μ-loop r k count binders₀ n₀ binders n = count - n
+μ-loop rule k count binders₀ n₀ binders n = count - n
 
 byte-at-requires : tie.Need-byte-at-requires Inv-loop μ-loop
 byte-at-requires c κs = search needs
@@ -26,11 +23,17 @@ loop-holds : tie.Need-loop-holds Inv-loop μ-loop
 unfolding binderNode
 loop-holds c = (omega arith, before-none _ 0, omega arith, search-start _ _ _ (c .byte-at .ensures .0))
 
+cast-t8 : tie.Need-cast-t8 Inv-loop μ-loop
+cast-t8 c = omega arith
+
 is-binder-of-requires : tie.Need-is-binder-of-requires Inv-loop μ-loop
-is-binder-of-requires c κs = omega arith
+is-binder-of-requires c κs = search needs
+
+cast-t10 : tie.Need-cast-t10 Inv-loop μ-loop
+cast-t10 c = omega arith
 
 returns : tie.Need-returns Inv-loop μ-loop
-returns c = (search-here _ _ _ _ (omega arith) (rw (← c .before .before .before .loop .inv .1) (sym (c .before .is-binder-of .ensures) ∙ c .if1 .taken)) (c .before .before .before .loop .inv .3), omega arith)
+returns c = search-here _ _ _ _ (omega arith) (rw (← c .before .before .before .loop .inv .1) (sym (c .before .is-binder-of .ensures) ∙ c .if1 .taken)) (c .before .before .before .loop .inv .3)
 
 binders-with-requires : tie.Need-binders-with-requires Inv-loop μ-loop
 binders-with-requires c κs = (omega arith, (c .before .before .before .loop .inv .1, omega arith))
@@ -44,21 +47,27 @@ loop-less c = omega arith
 loop-again : tie.Need-loop-again Inv-loop μ-loop
 loop-again c = (omega arith, c .binders-with .ensures .0, c .binders-with .ensures .1, search-next _ _ _ _ (omega arith) (rw (← c .before .before .before .before .loop .inv .1) (sym (c .before .before .is-binder-of .ensures) ∙ c .before .if1 .left)) (c .before .before .before .before .loop .inv .3))
 
-returns-2 : tie.Need-returns-2 Inv-loop μ-loop
-returns-2 c = (search-end _ _ _ _ (omega arith) (c .before .loop .inv .3), omega arith)
+cast-t11 : tie.Need-cast-t11 Inv-loop μ-loop
+cast-t11 c = omega arith
 
-pub binder-at-spec : {M : Type 1} → statement M
-binder-at-spec =
+returns-2 : tie.Need-returns-2 Inv-loop μ-loop
+returns-2 c = search-end _ _ _ _ (omega arith) (c .before .loop .inv .3)
+
+pub binder-node-spec : {M : Type 1} → statement M
+binder-node-spec =
     tie.close
     (tie.spec
     Inv-loop
     μ-loop
     byte-at-requires
     loop-holds
+    cast-t8
     is-binder-of-requires
+    cast-t10
     returns
     binders-with-requires
     add-n
     loop-less
     loop-again
+    cast-t11
     returns-2)
