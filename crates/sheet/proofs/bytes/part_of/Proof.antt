@@ -1,3 +1,4 @@
+-- `sheet::bytes::part_of` meets its contract.
 use borrow.Author.Needs.{needs}
 use native.Mathlib.Omega.{arith}
 use mathlib.Core.Path.{sym, _∙_, ap}
@@ -8,65 +9,49 @@ use lib.ListN.{drop-of-length-le, length, length-drop, take, drop}
 use lib.Seq.{take-nil, take-all}
 use Rattle.sheet.proofs.bytes.part_of.Statement.{statement}
 use Rattle.sheet.proofs.bytes.part_of.Tie as tie
-use Rattle.sheet.proofs.bytes.part_of.Reads as reads
-use Rattle.sheet.proofs.bytes.part_of.Lts as lts
 
--- src/bytes.rt:34:16
 sub-result : tie.Need-sub-result
 sub-result c = search needs
 
--- src/bytes.rt:34:16
 part-result-start : tie.Need-part-result-start
 part-result-start c = search needs
 
--- src/bytes.rt:34:16
 part-result-end : tie.Need-part-result-end
 part-result-end c = search needs
 
--- src/bytes.rt:34:9
 returns : tie.Need-returns
 returns c = let a = c .before .before .args in rw (drop-of-length-le (now (a .s)) (c .before .if1 .taken), take-nil (a .length))
 
--- src/bytes.rt:36:8
 sub-if2 : tie.Need-sub-if2
 sub-if2 c = search needs
 
--- src/bytes.rt:37:16
 sub-result-2 : tie.Need-sub-result-2
 sub-result-2 c = search needs
 
--- src/bytes.rt:37:16
 part-result-start-2 : tie.Need-part-result-start-2
 part-result-start-2 c = search needs
 
--- src/bytes.rt:37:16
 part-result-end-2 : tie.Need-part-result-end-2
 part-result-end-2 c = search needs
 
--- src/bytes.rt:37:9
 returns-2 : tie.Need-returns-2
 returns-2 c =
     let a = c .before .before .before .args in
     let d = drop (a .start) (now (a .s)) in
     take-all (length (now (a .s)) - a .start) d (simp length-drop (omega arith)) ∙ sym (take-all (a .length) d (simp length-drop (omega arith)))
 
--- src/bytes.rt:39:15
 add-result : tie.Need-add-result
 add-result c = search needs
 
--- src/bytes.rt:39:5
 sub-result-3 : tie.Need-sub-result-3
 sub-result-3 c = search needs
 
--- src/bytes.rt:39:5
 part-result-start-3 : tie.Need-part-result-start-3
 part-result-start-3 c = search needs
 
--- src/bytes.rt:39:5
 part-result-end-3 : tie.Need-part-result-end-3
 part-result-end-3 c = search needs
 
--- src/bytes.rt:30:1
 returns-3 : tie.Need-returns-3
 returns-3 c =
     let a = c .before .before .before .args in
