@@ -2,6 +2,7 @@
 use crate::fields::binder_of;
 use crate::fields::both;
 use crate::fields::close;
+use crate::fields::end_of;
 use crate::fields::first_of;
 use crate::fields::is_true;
 use crate::fields::kind_of;
@@ -15,6 +16,7 @@ use crate::fields::y_of;
 use calculus::meeting::meets;
 use sheet::Node;
 use sheet::State;
+use sheet::Variable;
 ghost use mathlib.Core.Path.{_≡_};
 ghost use mathlib.Core.Bool.{Bool·beq};
 ghost use Prim.Native.Nat.{_+_, _*_, _<_, _≤_};
@@ -33,22 +35,22 @@ fn decides(or: bool, w: u32) -> bool
 }
 
 // Whether variable k stands for its binder's cell under a mark.
-fn is_outer(k: u8, mark: u8) -> bool
-    ensures { λ r. ⌜ r ≡ outer k mark ⌝ }
+fn is_outer(k: Variable, mark: u8) -> bool
+    ensures { λ r. ⌜ r ≡ outer (k .0) mark ⌝ }
 {
     if mark == 0 {
         return true;
     }
-    k < mark - 1
+    k.0 < mark - 1
 }
 
 // The mark under which the child of binder k is decided.
-fn opening(k: u8, mark: u8) -> u8
-    requires { ⌜ k < 6 ⌝ }
-    ensures { λ r. ⌜ r ≡ opened k mark ⌝ }
+fn opening(k: Variable, mark: u8) -> u8
+    requires { ⌜ k .0 < 6 ⌝ }
+    ensures { λ r. ⌜ r ≡ opened (k .0) mark ⌝ }
 {
     if mark == 0 {
-        return k + 1;
+        return k.0 + 1;
     }
     mark
 }
@@ -103,8 +105,8 @@ pub(crate) fn decide(
         }
         6 => {
             let x = x_of(sheet, index, node);
-            let binder = binder_of(index, x);
-            if is_outer(x, mark) {
+            let binder = binder_of(index, Variable(x));
+            if is_outer(Variable(x), mark) {
                 let w = decide(sheet, index, table, 0, binder, state);
                 return close(table, at, w);
             }
@@ -114,7 +116,8 @@ pub(crate) fn decide(
         7..=8 => {
             let x = x_of(sheet, index, node);
             let y = y_of(sheet, index, node);
-            let w = decide(sheet, index, table, opening(x, mark), Node(y), state);
+            let inner = opening(Variable(x), mark);
+            let w = decide(sheet, index, table, inner, Node(y), state);
             close(table, at, w)
         }
         _ => close(table, at, 0),
@@ -137,9 +140,9 @@ fn follow(
     let n = node.0;
     let entry = x_of(sheet, index, Node(n));
     let child = y_of(sheet, index, Node(n));
-    let from = state.0 as usize;
-    let end = first_of(index, from + 1);
-    let mut i = first_of(index, from);
+    let from = state.0;
+    let end = end_of(index, State(from));
+    let mut i = first_of(index, State(from));
     let mut sum: u32 = 0;
     while i < end {
         if meets(mask_of(index, label_of(sheet, i)), entry) {

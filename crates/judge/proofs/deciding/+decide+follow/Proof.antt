@@ -10,6 +10,7 @@ use Rattle.sheet.specs.Contents.{planBody, ruleBody}
 use Rattle.judge.specs.Cells.{cell}
 use Rattle.judge.specs.Deciding.{Following}
 use Rattle.judge.proofs.Ranks.{rank}
+use Rattle.judge.proofs.Outgoing.{end-place}
 use Rattle.judge.proofs.FollowWalk.{walkRank, Walked, start, transition-among, met, call-child, turn-decided, turn-on, turn-past, sum-small, finish}
 use Rattle.judge.proofs.DecideRows.{placed, few-states, node-at, index-small, cell-inside, call-follow, binder-asked, binder-found, binder-at, call-first, call-second, call-outer, call-body, binder-x}
 use Rattle.judge.proofs.DecideAnswers.{answer-known, answer-false, answer-true, answer-unknown, answer-modal, answer-outer, answer-constant, answer-body, answer-first, answer-second}
@@ -37,6 +38,7 @@ use Rattle.judge.proofs.deciding.opening.Reads as opening-reads
 use Rattle.judge.proofs.fields.binder_of.Reads as binder-of-reads
 use Rattle.judge.proofs.fields.both.Reads as both-reads
 use Rattle.judge.proofs.fields.close.Reads as close-reads
+use Rattle.judge.proofs.fields.end_of.Reads as end-of-reads
 use Rattle.judge.proofs.fields.first_of.Reads as first-of-reads
 use Rattle.judge.proofs.fields.kind_of.Reads as kind-of-reads
 use Rattle.judge.proofs.fields.known_verdict.Reads as known-verdict-reads
@@ -172,10 +174,10 @@ module _ (t : ℕ) where
   decide-y-of-requires-2 c κs = node-at (now (c .before .before .before .before .before .before .before .before .before .before .args .sheet)) (now (c .before .before .before .before .before .before .before .before .before .before .args .index)) (now (c .before .before .before .before .before .before .before .before .before .before .args .table)) (c .before .before .before .before .before .before .before .before .before .before .args .mark) (c .before .before .before .before .before .before .before .before .before .before .args .node .0) (c .before .before .before .before .before .before .before .before .before .before .args .state .0) (c .before .before .before .before .before .before .before .before .before .before .pre .1)
 
   decide-opening-requires : decide-lts.Need-opening-requires (decide-claims t) (decide-at t) decide.Post
-  decide-opening-requires c κs = omega (arith, c .before .before .x-of3 .ensures, binder-x (now (c .before .before .before .before .before .before .before .before .before .before .before .before .args .sheet)) (now (c .before .before .before .before .before .before .before .before .before .before .before .before .args .index)) (now (c .before .before .before .before .before .before .before .before .before .before .before .before .args .table)) (c .before .before .before .before .before .before .before .before .before .before .before .before .args .mark) (c .before .before .before .before .before .before .before .before .before .before .before .before .args .node .0) (c .before .before .before .before .before .before .before .before .before .before .before .before .args .state .0) (c .before .before .before .before .before .before .before .before .before .before .before .before .pre .1) (omega arith) (omega arith))
+  decide-opening-requires c κs = omega (arith, c .before .x-of3 .ensures, binder-x (now (c .before .before .before .before .before .before .before .before .before .before .before .args .sheet)) (now (c .before .before .before .before .before .before .before .before .before .before .before .args .index)) (now (c .before .before .before .before .before .before .before .before .before .before .before .args .table)) (c .before .before .before .before .before .before .before .before .before .before .before .args .mark) (c .before .before .before .before .before .before .before .before .before .before .before .args .node .0) (c .before .before .before .before .before .before .before .before .before .before .before .args .state .0) (c .before .before .before .before .before .before .before .before .before .before .before .pre .1) (omega arith) (omega arith))
 
   decide-decide-requires-4 : decide-lts.Need-decide-requires-4 (decide-claims t) (decide-at t) decide.Post
-  decide-decide-requires-4 c κs = let w = call-body (now (c .before .before .before .before .before .before .before .before .before .before .before .before .before .args .sheet)) (now (c .before .before .before .before .before .before .before .before .before .before .before .before .before .args .index)) (now (c .before .before .before .before .before .before .before .before .before .before .before .before .before .args .table)) (c .before .before .before .before .before .before .before .before .before .before .before .before .before .args .mark) (c .before .before .before .before .before .before .before .before .before .before .before .before .before .args .node .0) (c .before .before .before .before .before .before .before .before .before .before .before .before .before .args .state .0) (c .before .before .before .before .before .before .before .before .before .before .before .before .before .pre .1) (now (c .before .before .before .before .before .before .before .before .before .before .before .before .before .args .table)) (c .before .before .before .before .before .before .before .before .before .before .before .before .before .pre .1 .room) (c .opening .result) (c .before .before .y-of2 .result) (c .opening .ensures ∙ ap (λ (k : ℕ). opened k (c .before .before .before .before .before .before .before .before .before .before .before .before .before .args .mark)) (c .before .before .before .x-of3 .ensures)) (c .before .before .y-of2 .ensures) (omega arith) (omega arith) in (omega (arith, w .0, c .before .before .before .before .before .before .before .before .before .before .before .before .before .pre .0), w .1)
+  decide-decide-requires-4 c κs = let w = call-body (now (c .before .before .before .before .before .before .before .before .before .before .before .before .before .args .sheet)) (now (c .before .before .before .before .before .before .before .before .before .before .before .before .before .args .index)) (now (c .before .before .before .before .before .before .before .before .before .before .before .before .before .args .table)) (c .before .before .before .before .before .before .before .before .before .before .before .before .before .args .mark) (c .before .before .before .before .before .before .before .before .before .before .before .before .before .args .node .0) (c .before .before .before .before .before .before .before .before .before .before .before .before .before .args .state .0) (c .before .before .before .before .before .before .before .before .before .before .before .before .before .pre .1) (now (c .before .before .before .before .before .before .before .before .before .before .before .before .before .args .table)) (c .before .before .before .before .before .before .before .before .before .before .before .before .before .pre .1 .room) (c .before .opening .result) (c .before .before .y-of2 .result) (c .before .opening .ensures ∙ ap (λ (k : ℕ). opened k (c .before .before .before .before .before .before .before .before .before .before .before .before .before .args .mark)) (c .before .before .before .x-of3 .ensures)) (c .before .before .y-of2 .ensures) (omega arith) (omega arith) in (omega (arith, w .0, c .before .before .before .before .before .before .before .before .before .before .before .before .before .pre .0), w .1)
 
   decide-close-requires-9 : decide-lts.Need-close-requires-9 (decide-claims t) (decide-at t) decide.Post
   decide-close-requires-9 c κs = (omega (arith, cell-inside (now (c .before .before .before .before .before .before .before .before .before .before .before .before .before .before .before .before .before .args .sheet)) (now (c .before .before .before .before .before .before .before .before .before .before .before .before .before .before .before .before .before .args .index)) (now (c .before .before .before .before .before .before .before .before .before .before .before .before .before .before .before .before .before .args .table)) (c .before .before .before .before .before .before .before .before .before .before .before .before .before .before .before .before .before .args .mark) (c .before .before .before .before .before .before .before .before .before .before .before .before .before .before .before .before .before .args .node .0) (c .before .before .before .before .before .before .before .before .before .before .before .before .before .before .before .before .before .args .state .0) (c .before .before .before .before .before .before .before .before .before .before .before .before .before .before .before .before .before .pre .1) (c .before .before .before .before .before .before .before .before .before .before .before .before .before .before .place .result) (placed (now (c .before .before .before .before .before .before .before .before .before .before .before .before .before .before .before .before .before .args .sheet)) (now (c .before .before .before .before .before .before .before .before .before .before .before .before .before .before .before .before .before .args .index)) (c .before .before .before .before .before .before .before .before .before .before .before .before .before .before .before .before .before .pre .1 .prepared) (c .before .before .before .before .before .before .before .before .before .before .before .before .before .before .before .before .before .args .mark) (c .before .before .before .before .before .before .before .before .before .before .before .before .before .before .before .before .before .args .node .0) (c .before .before .before .before .before .before .before .before .before .before .before .before .before .before .before .before .before .args .state .0) (c .before .before .before .before .before .before .before .before .before .before .before .before .before .before .place .result) (c .before .before .before .before .before .before .before .before .before .before .before .before .before .before .place .ensures)), c .before .before .before .decide4 .kept .1 .1 .0), omega (arith, c .before .before .before .decide4 .ensures .small))
@@ -223,7 +225,7 @@ module _ (t : ℕ) where
   decide-same-length-9 c = c .before .before .close9 .kept .0 ∙ c .before .before .before .before .before .before .decide4 .kept .1 .1 .0
 
   decide-returns-10 : decide-lts.Need-returns-10 (decide-claims t) (decide-at t) decide.Post
-  decide-returns-10 c = answer-body (now (c .before .before .before .before .before .before .before .before .before .before .before .before .before .before .before .before .before .before .before .before .args .sheet)) (now (c .before .before .before .before .before .before .before .before .before .before .before .before .before .before .before .before .before .before .before .before .args .index)) (now (c .before .before .before .before .before .before .before .before .before .before .before .before .before .before .before .before .before .before .before .before .args .table)) (c .before .before .before .before .before .before .before .before .before .before .before .before .before .before .before .before .before .before .before .before .args .mark) (c .before .before .before .before .before .before .before .before .before .before .before .before .before .before .before .before .before .before .before .before .args .node .0) (c .before .before .before .before .before .before .before .before .before .before .before .before .before .before .before .before .before .before .before .before .args .state .0) (c .before .before .before .before .before .before .before .before .before .before .before .before .before .before .before .before .before .before .before .before .pre .1) (c .before .before .before .before .before .before .before .before .before .before .before .before .before .before .before .before .before .place .result) (placed (now (c .before .before .before .before .before .before .before .before .before .before .before .before .before .before .before .before .before .before .before .before .args .sheet)) (now (c .before .before .before .before .before .before .before .before .before .before .before .before .before .before .before .before .before .before .before .before .args .index)) (c .before .before .before .before .before .before .before .before .before .before .before .before .before .before .before .before .before .before .before .before .pre .1 .prepared) (c .before .before .before .before .before .before .before .before .before .before .before .before .before .before .before .before .before .before .before .before .args .mark) (c .before .before .before .before .before .before .before .before .before .before .before .before .before .before .before .before .before .before .before .before .args .node .0) (c .before .before .before .before .before .before .before .before .before .before .before .before .before .before .before .before .before .before .before .before .args .state .0) (c .before .before .before .before .before .before .before .before .before .before .before .before .before .before .before .before .before .place .result) (c .before .before .before .before .before .before .before .before .before .before .before .before .before .before .before .before .before .place .ensures)) (c .before .before .before .before .before .before .before .before .before .before .before .before .before .before .before .if1 .left) (c .before .before .before .before .before .before .before .opening .result) (c .before .before .before .before .before .before .before .before .before .y-of2 .result) (c .before .before .before .before .before .before .before .opening .ensures ∙ ap (λ (k : ℕ). opened k (c .before .before .before .before .before .before .before .before .before .before .before .before .before .before .before .before .before .before .before .before .args .mark)) (c .before .before .before .before .before .before .before .before .before .before .x-of3 .ensures)) (c .before .before .before .before .before .before .before .before .before .y-of2 .ensures) (omega arith) (omega arith) _ _ _ _ (c .before .before .before .before .before .before .decide4 .ensures) (c .before .before .close9 .ensures .0) (c .before .before .close9 .ensures .1)
+  decide-returns-10 c = answer-body (now (c .before .before .before .before .before .before .before .before .before .before .before .before .before .before .before .before .before .before .before .before .args .sheet)) (now (c .before .before .before .before .before .before .before .before .before .before .before .before .before .before .before .before .before .before .before .before .args .index)) (now (c .before .before .before .before .before .before .before .before .before .before .before .before .before .before .before .before .before .before .before .before .args .table)) (c .before .before .before .before .before .before .before .before .before .before .before .before .before .before .before .before .before .before .before .before .args .mark) (c .before .before .before .before .before .before .before .before .before .before .before .before .before .before .before .before .before .before .before .before .args .node .0) (c .before .before .before .before .before .before .before .before .before .before .before .before .before .before .before .before .before .before .before .before .args .state .0) (c .before .before .before .before .before .before .before .before .before .before .before .before .before .before .before .before .before .before .before .before .pre .1) (c .before .before .before .before .before .before .before .before .before .before .before .before .before .before .before .before .before .place .result) (placed (now (c .before .before .before .before .before .before .before .before .before .before .before .before .before .before .before .before .before .before .before .before .args .sheet)) (now (c .before .before .before .before .before .before .before .before .before .before .before .before .before .before .before .before .before .before .before .before .args .index)) (c .before .before .before .before .before .before .before .before .before .before .before .before .before .before .before .before .before .before .before .before .pre .1 .prepared) (c .before .before .before .before .before .before .before .before .before .before .before .before .before .before .before .before .before .before .before .before .args .mark) (c .before .before .before .before .before .before .before .before .before .before .before .before .before .before .before .before .before .before .before .before .args .node .0) (c .before .before .before .before .before .before .before .before .before .before .before .before .before .before .before .before .before .before .before .before .args .state .0) (c .before .before .before .before .before .before .before .before .before .before .before .before .before .before .before .before .before .place .result) (c .before .before .before .before .before .before .before .before .before .before .before .before .before .before .before .before .before .place .ensures)) (c .before .before .before .before .before .before .before .before .before .before .before .before .before .before .before .if1 .left) (c .before .before .before .before .before .before .before .before .opening .result) (c .before .before .before .before .before .before .before .before .before .y-of2 .result) (c .before .before .before .before .before .before .before .before .opening .ensures ∙ ap (λ (k : ℕ). opened k (c .before .before .before .before .before .before .before .before .before .before .before .before .before .before .before .before .before .before .before .before .args .mark)) (c .before .before .before .before .before .before .before .before .before .before .x-of3 .ensures)) (c .before .before .before .before .before .before .before .before .before .y-of2 .ensures) (omega arith) (omega arith) _ _ _ _ (c .before .before .before .before .before .before .decide4 .ensures) (c .before .before .close9 .ensures .0) (c .before .before .close9 .ensures .1)
 
   decide-same-length-10 : decide-lts.Need-same-length-10 (decide-claims t) (decide-at t) decide.Post
   decide-same-length-10 c = c .before .before .close10 .kept .0
@@ -233,7 +235,7 @@ module _ (t : ℕ) where
 
 -- what the functions that follow calls ask and tell
 abbrev follow-claims : ℕ → follow-lts.Claims
-follow-claims t = (x-of-reads.Asked, x-of-reads.Learnt, y-of-reads.Asked, y-of-reads.Learnt, first-of-reads.Asked, first-of-reads.Learnt, label-of-reads.Asked, label-of-reads.Learnt, mask-of-reads.Asked, mask-of-reads.Learnt, meets-reads.Asked, meets-reads.Learnt, target-of-reads.Asked, target-of-reads.Learnt, decide-below t, decide.Post, decides-reads.Asked, decides-reads.Learnt, both-reads.Asked, both-reads.Learnt, number-of-reads.Asked, number-of-reads.Learnt)
+follow-claims t = (x-of-reads.Asked, x-of-reads.Learnt, y-of-reads.Asked, y-of-reads.Learnt, end-of-reads.Asked, end-of-reads.Learnt, first-of-reads.Asked, first-of-reads.Learnt, label-of-reads.Asked, label-of-reads.Learnt, mask-of-reads.Asked, mask-of-reads.Learnt, meets-reads.Asked, meets-reads.Learnt, target-of-reads.Asked, target-of-reads.Learnt, decide-below t, decide.Post, decides-reads.Asked, decides-reads.Learnt, both-reads.Asked, both-reads.Learnt, number-of-reads.Asked, number-of-reads.Learnt)
 
 abbrev follow-Inv-loop : follow-lts.InvT-loop
 follow-Inv-loop sheet index table₀ or n entry child from end i₀ sum₀ table i sum = (f : Following sheet index table₀ n from) × Walked sheet index table₀ n from f i₀ end i sum table
@@ -248,23 +250,17 @@ module _ (t : ℕ) where
   follow-y-of-requires : follow-lts.Need-y-of-requires (follow-claims t) (follow-at t) follow.Post follow-Inv-loop follow-μ-loop
   follow-y-of-requires c κs = record { accepted = c .before .before .before .pre .1 .0 .accepted; offset-is = c .before .before .before .pre .1 .0 .prepared .offset-is; node-below = c .before .before .before .pre .1 .0 .node-below }
 
-  follow-cast-from : follow-lts.Need-cast-from (follow-claims t) (follow-at t) follow.Post follow-Inv-loop follow-μ-loop
-  follow-cast-from c = omega arith
-
-  follow-add-first-of : follow-lts.Need-add-first-of (follow-claims t) (follow-at t) follow.Post follow-Inv-loop follow-μ-loop
-  follow-add-first-of c = omega (arith, c .before .before .before .before .before .pre .1 .0 .state-below, few-states (now (c .before .before .before .before .before .args .sheet)) (c .before .before .before .before .before .pre .1 .0 .accepted))
+  follow-end-of-requires : follow-lts.Need-end-of-requires (follow-claims t) (follow-at t) follow.Post follow-Inv-loop follow-μ-loop
+  follow-end-of-requires c κs = omega (arith, c .before .before .before .before .pre .1 .0 .state-below, few-states (now (c .before .before .before .before .args .sheet)) (c .before .before .before .before .pre .1 .0 .accepted))
 
   follow-first-of-requires : follow-lts.Need-first-of-requires (follow-claims t) (follow-at t) follow.Post follow-Inv-loop follow-μ-loop
   follow-first-of-requires c κs = omega (arith, c .before .before .before .before .before .pre .1 .0 .state-below, few-states (now (c .before .before .before .before .before .args .sheet)) (c .before .before .before .before .before .pre .1 .0 .accepted))
 
-  follow-first-of-requires-2 : follow-lts.Need-first-of-requires-2 (follow-claims t) (follow-at t) follow.Post follow-Inv-loop follow-μ-loop
-  follow-first-of-requires-2 c κs = omega (arith, c .before .before .before .before .before .before .pre .1 .0 .state-below, few-states (now (c .before .before .before .before .before .before .args .sheet)) (c .before .before .before .before .before .before .pre .1 .0 .accepted))
-
   follow-loop-holds : follow-lts.Need-loop-holds (follow-claims t) (follow-at t) follow.Post follow-Inv-loop follow-μ-loop
-  follow-loop-holds c = (c .before .before .before .before .before .before .before .pre .1 .0, start (now (c .before .before .before .before .before .before .before .args .sheet)) (now (c .before .before .before .before .before .before .before .args .index)) (now (c .before .before .before .before .before .before .before .args .table)) (c .before .before .before .before .before .before .before .args .node .0) (c .before .before .before .before .before .before .before .args .state .0) (c .before .before .before .before .before .before .before .pre .1 .0) (c .first-of2 .result) (c .before .first-of .result) (c .first-of2 .ensures ∙ c .before .before .before .before .before .before .before .pre .1 .0 .prepared .firsts-are (c .before .before .before .before .before .before .before .args .state .0) (omega (arith, c .before .before .before .before .before .before .before .pre .1 .0 .state-below))) (c .before .first-of .ensures ∙ c .before .before .before .before .before .before .before .pre .1 .0 .prepared .firsts-are (c .before .before .before .before .before .before .before .args .state .0 + 1) (omega (arith, c .before .before .before .before .before .before .before .pre .1 .0 .state-below))))
+  follow-loop-holds c = (c .before .before .before .before .before .before .pre .1 .0, start (now (c .before .before .before .before .before .before .args .sheet)) (now (c .before .before .before .before .before .before .args .index)) (now (c .before .before .before .before .before .before .args .table)) (c .before .before .before .before .before .before .args .node .0) (c .before .before .before .before .before .before .args .state .0) (c .before .before .before .before .before .before .pre .1 .0) (c .first-of .result) (c .before .end-of .result) (c .first-of .ensures ∙ c .before .before .before .before .before .before .pre .1 .0 .prepared .firsts-are (c .before .before .before .before .before .before .args .state .0) (omega (arith, c .before .before .before .before .before .before .pre .1 .0 .state-below))) (c .before .end-of .ensures ∙ end-place _ (now (c .before .before .before .before .before .before .args .index)) (c .before .before .before .before .before .before .pre .1 .0 .prepared .firsts-are) _ (c .before .before .before .before .before .before .pre .1 .0 .state-below)))
 
   follow-label-of-requires : follow-lts.Need-label-of-requires (follow-claims t) (follow-at t) follow.Post follow-Inv-loop follow-μ-loop
-  follow-label-of-requires c κs = record { accepted = c .before .before .before .before .before .before .before .before .before .pre .1 .0 .accepted; among = transition-among (now (c .before .before .before .before .before .before .before .before .before .args .sheet)) (now (c .before .before .before .before .before .before .before .before .before .args .index)) (now (c .before .before .before .before .before .before .before .before .before .args .table)) (c .before .before .before .before .before .before .before .before .before .args .node .0) (c .before .before .before .before .before .before .before .before .before .args .state .0) (c .before .loop .inv .0) _ _ _ _ _ (c .before .loop .inv .1) (c .loop-test .taken) }
+  follow-label-of-requires c κs = record { accepted = c .before .before .before .before .before .before .before .before .pre .1 .0 .accepted; among = transition-among (now (c .before .before .before .before .before .before .before .before .args .sheet)) (now (c .before .before .before .before .before .before .before .before .args .index)) (now (c .before .before .before .before .before .before .before .before .args .table)) (c .before .before .before .before .before .before .before .before .args .node .0) (c .before .before .before .before .before .before .before .before .args .state .0) (c .before .loop .inv .0) _ _ _ _ _ (c .before .loop .inv .1) (c .loop-test .taken) }
 
   follow-mask-of-requires : follow-lts.Need-mask-of-requires (follow-claims t) (follow-at t) follow.Post follow-Inv-loop follow-μ-loop
   follow-mask-of-requires c κs = search needs
@@ -273,25 +269,25 @@ module _ (t : ℕ) where
   follow-meets-requires c κs = search needs
 
   follow-target-of-requires : follow-lts.Need-target-of-requires (follow-claims t) (follow-at t) follow.Post follow-Inv-loop follow-μ-loop
-  follow-target-of-requires c κs = record { accepted = c .before .before .before .before .before .before .before .before .before .before .before .before .before .before .pre .1 .0 .accepted; among = transition-among (now (c .before .before .before .before .before .before .before .before .before .before .before .before .before .before .args .sheet)) (now (c .before .before .before .before .before .before .before .before .before .before .before .before .before .before .args .index)) (now (c .before .before .before .before .before .before .before .before .before .before .before .before .before .before .args .table)) (c .before .before .before .before .before .before .before .before .before .before .before .before .before .before .args .node .0) (c .before .before .before .before .before .before .before .before .before .before .before .before .before .before .args .state .0) (c .before .before .before .before .before .before .loop .inv .0) _ _ _ _ _ (c .before .before .before .before .before .before .loop .inv .1) (c .before .before .before .before .before .loop-test .taken) }
+  follow-target-of-requires c κs = record { accepted = c .before .before .before .before .before .before .before .before .before .before .before .before .before .pre .1 .0 .accepted; among = transition-among (now (c .before .before .before .before .before .before .before .before .before .before .before .before .before .args .sheet)) (now (c .before .before .before .before .before .before .before .before .before .before .before .before .before .args .index)) (now (c .before .before .before .before .before .before .before .before .before .before .before .before .before .args .table)) (c .before .before .before .before .before .before .before .before .before .before .before .before .before .args .node .0) (c .before .before .before .before .before .before .before .before .before .before .before .before .before .args .state .0) (c .before .before .before .before .before .before .loop .inv .0) _ _ _ _ _ (c .before .before .before .before .before .before .loop .inv .1) (c .before .before .before .before .before .loop-test .taken) }
 
   follow-decide-requires : follow-lts.Need-decide-requires (follow-claims t) (follow-at t) follow.Post follow-Inv-loop follow-μ-loop
-  follow-decide-requires c κs = let w = call-child (now (c .before .before .before .before .before .before .before .before .before .before .before .before .before .before .before .args .sheet)) (now (c .before .before .before .before .before .before .before .before .before .before .before .before .before .before .before .args .index)) (now (c .before .before .before .before .before .before .before .before .before .before .before .before .before .before .before .args .table)) (c .before .before .before .before .before .before .before .before .before .before .before .before .before .before .before .args .node .0) (c .before .before .before .before .before .before .before .before .before .before .before .before .before .before .before .args .state .0) (c .before .before .before .before .before .before .before .loop .inv .0) _ _ _ _ _ (c .before .before .before .before .before .before .before .loop .inv .1) (c .before .before .before .before .before .before .loop-test .taken) (c .before .before .before .before .before .before .before .before .before .before .before .y-of .result) (c .target-of .result .0) (c .before .before .before .before .before .before .before .before .before .before .before .y-of .ensures) (c .target-of .ensures) in (omega (arith, w .0, c .before .before .before .before .before .before .before .before .before .before .before .before .before .before .before .pre .0), w .1)
+  follow-decide-requires c κs = let w = call-child (now (c .before .before .before .before .before .before .before .before .before .before .before .before .before .before .args .sheet)) (now (c .before .before .before .before .before .before .before .before .before .before .before .before .before .before .args .index)) (now (c .before .before .before .before .before .before .before .before .before .before .before .before .before .before .args .table)) (c .before .before .before .before .before .before .before .before .before .before .before .before .before .before .args .node .0) (c .before .before .before .before .before .before .before .before .before .before .before .before .before .before .args .state .0) (c .before .before .before .before .before .before .before .loop .inv .0) _ _ _ _ _ (c .before .before .before .before .before .before .before .loop .inv .1) (c .before .before .before .before .before .before .loop-test .taken) (c .before .before .before .before .before .before .before .before .before .before .y-of .result) (c .target-of .result .0) (c .before .before .before .before .before .before .before .before .before .before .y-of .ensures) (c .target-of .ensures) in (omega (arith, w .0, c .before .before .before .before .before .before .before .before .before .before .before .before .before .before .pre .0), w .1)
 
   follow-decides-requires : follow-lts.Need-decides-requires (follow-claims t) (follow-at t) follow.Post follow-Inv-loop follow-μ-loop
   follow-decides-requires c κs = search needs
 
   follow-both-requires : follow-lts.Need-both-requires (follow-claims t) (follow-at t) follow.Post follow-Inv-loop follow-μ-loop
-  follow-both-requires c κs = (sum-small (now (c .before .before .before .before .before .before .before .before .before .before .before .before .before .before .before .before .before .before .before .before .args .sheet)) (now (c .before .before .before .before .before .before .before .before .before .before .before .before .before .before .before .before .before .before .before .before .args .index)) (now (c .before .before .before .before .before .before .before .before .before .before .before .before .before .before .before .before .before .before .before .before .args .table)) (c .before .before .before .before .before .before .before .before .before .before .before .before .before .before .before .before .before .before .before .before .args .node .0) (c .before .before .before .before .before .before .before .before .before .before .before .before .before .before .before .before .before .before .before .before .args .state .0) (c .before .before .before .before .before .before .before .before .before .before .before .before .loop .inv .0) _ _ _ _ _ (c .before .before .before .before .before .before .before .before .before .before .before .before .loop .inv .1), omega (arith, c .before .before .before .before .decide .ensures .small))
+  follow-both-requires c κs = (sum-small (now (c .before .before .before .before .before .before .before .before .before .before .before .before .before .before .before .before .before .before .before .args .sheet)) (now (c .before .before .before .before .before .before .before .before .before .before .before .before .before .before .before .before .before .before .before .args .index)) (now (c .before .before .before .before .before .before .before .before .before .before .before .before .before .before .before .before .before .before .before .args .table)) (c .before .before .before .before .before .before .before .before .before .before .before .before .before .before .before .before .before .before .before .args .node .0) (c .before .before .before .before .before .before .before .before .before .before .before .before .before .before .before .before .before .before .before .args .state .0) (c .before .before .before .before .before .before .before .before .before .before .before .before .loop .inv .0) _ _ _ _ _ (c .before .before .before .before .before .before .before .before .before .before .before .before .loop .inv .1), omega (arith, c .before .before .before .before .decide .ensures .small))
 
   follow-same-length : follow-lts.Need-same-length (follow-claims t) (follow-at t) follow.Post follow-Inv-loop follow-μ-loop
   follow-same-length c = c .before .before .before .before .before .decide .kept .1 .1 .0 ∙ c .before .before .before .before .before .before .before .before .before .before .before .before .before .loop .inv .1 .long
 
   follow-returns : follow-lts.Need-returns (follow-claims t) (follow-at t) follow.Post follow-Inv-loop follow-μ-loop
-  follow-returns c = turn-decided (now (c .before .before .before .before .before .before .before .before .before .before .before .before .before .before .before .before .before .before .before .before .before .args .sheet)) (now (c .before .before .before .before .before .before .before .before .before .before .before .before .before .before .before .before .before .before .before .before .before .args .index)) (now (c .before .before .before .before .before .before .before .before .before .before .before .before .before .before .before .before .before .before .before .before .before .args .table)) (c .before .before .before .before .before .before .before .before .before .before .before .before .before .before .before .before .before .before .before .before .before .args .node .0) (c .before .before .before .before .before .before .before .before .before .before .before .before .before .before .before .before .before .before .before .before .before .args .state .0) (c .before .before .before .before .before .before .before .before .before .before .before .before .before .loop .inv .0) _ _ _ _ _ (c .before .before .before .before .before .before .before .before .before .before .before .before .before .loop .inv .1) (c .before .before .before .before .before .before .before .before .before .before .before .before .loop-test .taken) (sym (met (now (c .before .before .before .before .before .before .before .before .before .before .before .before .before .before .before .before .before .before .before .before .before .args .sheet)) (now (c .before .before .before .before .before .before .before .before .before .before .before .before .before .before .before .before .before .before .before .before .before .args .index)) (now (c .before .before .before .before .before .before .before .before .before .before .before .before .before .before .before .before .before .before .before .before .before .args .table)) (c .before .before .before .before .before .before .before .before .before .before .before .before .before .before .before .before .before .before .before .before .before .args .node .0) (c .before .before .before .before .before .before .before .before .before .before .before .before .before .before .before .before .before .before .before .before .before .args .state .0) (c .before .before .before .before .before .before .before .before .before .before .before .before .before .loop .inv .0) _ _ _ _ _ (c .before .before .before .before .before .before .before .before .before .before .before .before .before .loop .inv .1) (c .before .before .before .before .before .before .before .before .before .before .before .before .loop-test .taken) (c .before .before .before .before .before .before .before .before .before .meets .result) (c .before .before .before .before .before .before .before .before .before .before .mask-of .result) (c .before .before .before .before .before .before .before .before .before .before .before .label-of .result) (c .before .before .before .before .before .before .before .before .before .before .before .before .before .before .before .before .before .before .x-of .result) (c .before .before .before .before .before .before .before .before .before .meets .ensures) (c .before .before .before .before .before .before .before .before .before .before .mask-of .ensures) (c .before .before .before .before .before .before .before .before .before .before .before .label-of .ensures) (c .before .before .before .before .before .before .before .before .before .before .before .before .before .before .before .before .before .before .x-of .ensures)) ∙ c .before .before .before .before .before .before .before .before .if1 .taken) (c .before .before .before .before .before .before .before .before .before .before .before .before .before .before .before .before .before .y-of .result) (c .before .before .before .before .before .before .target-of .result .0) (c .before .before .before .before .before .before .before .before .before .before .before .before .before .before .before .before .before .y-of .ensures) (c .before .before .before .before .before .before .target-of .ensures) (c .before .before .before .before .before .decide .result) _ (c .before .before .before .before .before .decide .ensures) (ap (Bool·beq (verdictIn (c .before .before .before .before .before .decide .result))) (sym (c .before .before .before .before .before .before .before .before .before .before .before .before .before .before .before .before .before .before .before .before .before .pre .1 .1)) ∙ (sym (c .before .before .decides .ensures) ∙ c .before .if2 .taken)) _ (c .both .ensures)
+  follow-returns c = turn-decided (now (c .before .before .before .before .before .before .before .before .before .before .before .before .before .before .before .before .before .before .before .before .args .sheet)) (now (c .before .before .before .before .before .before .before .before .before .before .before .before .before .before .before .before .before .before .before .before .args .index)) (now (c .before .before .before .before .before .before .before .before .before .before .before .before .before .before .before .before .before .before .before .before .args .table)) (c .before .before .before .before .before .before .before .before .before .before .before .before .before .before .before .before .before .before .before .before .args .node .0) (c .before .before .before .before .before .before .before .before .before .before .before .before .before .before .before .before .before .before .before .before .args .state .0) (c .before .before .before .before .before .before .before .before .before .before .before .before .before .loop .inv .0) _ _ _ _ _ (c .before .before .before .before .before .before .before .before .before .before .before .before .before .loop .inv .1) (c .before .before .before .before .before .before .before .before .before .before .before .before .loop-test .taken) (sym (met (now (c .before .before .before .before .before .before .before .before .before .before .before .before .before .before .before .before .before .before .before .before .args .sheet)) (now (c .before .before .before .before .before .before .before .before .before .before .before .before .before .before .before .before .before .before .before .before .args .index)) (now (c .before .before .before .before .before .before .before .before .before .before .before .before .before .before .before .before .before .before .before .before .args .table)) (c .before .before .before .before .before .before .before .before .before .before .before .before .before .before .before .before .before .before .before .before .args .node .0) (c .before .before .before .before .before .before .before .before .before .before .before .before .before .before .before .before .before .before .before .before .args .state .0) (c .before .before .before .before .before .before .before .before .before .before .before .before .before .loop .inv .0) _ _ _ _ _ (c .before .before .before .before .before .before .before .before .before .before .before .before .before .loop .inv .1) (c .before .before .before .before .before .before .before .before .before .before .before .before .loop-test .taken) (c .before .before .before .before .before .before .before .before .before .meets .result) (c .before .before .before .before .before .before .before .before .before .before .mask-of .result) (c .before .before .before .before .before .before .before .before .before .before .before .label-of .result .0) (c .before .before .before .before .before .before .before .before .before .before .before .before .before .before .before .before .before .x-of .result) (c .before .before .before .before .before .before .before .before .before .meets .ensures) (c .before .before .before .before .before .before .before .before .before .before .mask-of .ensures) (c .before .before .before .before .before .before .before .before .before .before .before .label-of .ensures) (c .before .before .before .before .before .before .before .before .before .before .before .before .before .before .before .before .before .x-of .ensures)) ∙ c .before .before .before .before .before .before .before .before .if1 .taken) (c .before .before .before .before .before .before .before .before .before .before .before .before .before .before .before .before .y-of .result) (c .before .before .before .before .before .before .target-of .result .0) (c .before .before .before .before .before .before .before .before .before .before .before .before .before .before .before .before .y-of .ensures) (c .before .before .before .before .before .before .target-of .ensures) (c .before .before .before .before .before .decide .result) _ (c .before .before .before .before .before .decide .ensures) (ap (Bool·beq (verdictIn (c .before .before .before .before .before .decide .result))) (sym (c .before .before .before .before .before .before .before .before .before .before .before .before .before .before .before .before .before .before .before .before .pre .1 .1)) ∙ (sym (c .before .before .decides .ensures) ∙ c .before .if2 .taken)) _ (c .both .ensures)
 
   follow-both-requires-2 : follow-lts.Need-both-requires-2 (follow-claims t) (follow-at t) follow.Post follow-Inv-loop follow-μ-loop
-  follow-both-requires-2 c κs = (sum-small (now (c .before .before .before .before .before .before .before .before .before .before .before .before .before .before .before .before .before .before .before .before .args .sheet)) (now (c .before .before .before .before .before .before .before .before .before .before .before .before .before .before .before .before .before .before .before .before .args .index)) (now (c .before .before .before .before .before .before .before .before .before .before .before .before .before .before .before .before .before .before .before .before .args .table)) (c .before .before .before .before .before .before .before .before .before .before .before .before .before .before .before .before .before .before .before .before .args .node .0) (c .before .before .before .before .before .before .before .before .before .before .before .before .before .before .before .before .before .before .before .before .args .state .0) (c .before .before .before .before .before .before .before .before .before .before .before .before .loop .inv .0) _ _ _ _ _ (c .before .before .before .before .before .before .before .before .before .before .before .before .loop .inv .1), omega (arith, c .before .before .before .before .decide .ensures .small))
+  follow-both-requires-2 c κs = (sum-small (now (c .before .before .before .before .before .before .before .before .before .before .before .before .before .before .before .before .before .before .before .args .sheet)) (now (c .before .before .before .before .before .before .before .before .before .before .before .before .before .before .before .before .before .before .before .args .index)) (now (c .before .before .before .before .before .before .before .before .before .before .before .before .before .before .before .before .before .before .before .args .table)) (c .before .before .before .before .before .before .before .before .before .before .before .before .before .before .before .before .before .before .before .args .node .0) (c .before .before .before .before .before .before .before .before .before .before .before .before .before .before .before .before .before .before .before .args .state .0) (c .before .before .before .before .before .before .before .before .before .before .before .before .loop .inv .0) _ _ _ _ _ (c .before .before .before .before .before .before .before .before .before .before .before .before .loop .inv .1), omega (arith, c .before .before .before .before .decide .ensures .small))
 
   follow-add-i : follow-lts.Need-add-i (follow-claims t) (follow-at t) follow.Post follow-Inv-loop follow-μ-loop
   follow-add-i c = omega (arith, c .before .before .before .before .before .before .before .before .before .before .before .before .before .loop .inv .1 .few, c .before .before .before .before .before .before .before .before .before .before .before .before .before .loop .inv .1 .within)
@@ -300,7 +296,7 @@ module _ (t : ℕ) where
   follow-loop-less c = omega (arith, c .before .before .before .before .before .before .before .before .before .before .before .before .before .loop .inv .1 .few, c .before .before .before .before .before .before .before .before .before .before .before .before .before .loop .inv .1 .within)
 
   follow-loop-again : follow-lts.Need-loop-again (follow-claims t) (follow-at t) follow.Post follow-Inv-loop follow-μ-loop
-  follow-loop-again c = (c .before .before .before .before .before .before .before .before .before .before .before .before .before .loop .inv .0, turn-on (now (c .before .before .before .before .before .before .before .before .before .before .before .before .before .before .before .before .before .before .before .before .before .args .sheet)) (now (c .before .before .before .before .before .before .before .before .before .before .before .before .before .before .before .before .before .before .before .before .before .args .index)) (now (c .before .before .before .before .before .before .before .before .before .before .before .before .before .before .before .before .before .before .before .before .before .args .table)) (c .before .before .before .before .before .before .before .before .before .before .before .before .before .before .before .before .before .before .before .before .before .args .node .0) (c .before .before .before .before .before .before .before .before .before .before .before .before .before .before .before .before .before .before .before .before .before .args .state .0) (c .before .before .before .before .before .before .before .before .before .before .before .before .before .loop .inv .0) _ _ _ _ _ (c .before .before .before .before .before .before .before .before .before .before .before .before .before .loop .inv .1) (c .before .before .before .before .before .before .before .before .before .before .before .before .loop-test .taken) (sym (met (now (c .before .before .before .before .before .before .before .before .before .before .before .before .before .before .before .before .before .before .before .before .before .args .sheet)) (now (c .before .before .before .before .before .before .before .before .before .before .before .before .before .before .before .before .before .before .before .before .before .args .index)) (now (c .before .before .before .before .before .before .before .before .before .before .before .before .before .before .before .before .before .before .before .before .before .args .table)) (c .before .before .before .before .before .before .before .before .before .before .before .before .before .before .before .before .before .before .before .before .before .args .node .0) (c .before .before .before .before .before .before .before .before .before .before .before .before .before .before .before .before .before .before .before .before .before .args .state .0) (c .before .before .before .before .before .before .before .before .before .before .before .before .before .loop .inv .0) _ _ _ _ _ (c .before .before .before .before .before .before .before .before .before .before .before .before .before .loop .inv .1) (c .before .before .before .before .before .before .before .before .before .before .before .before .loop-test .taken) (c .before .before .before .before .before .before .before .before .before .meets .result) (c .before .before .before .before .before .before .before .before .before .before .mask-of .result) (c .before .before .before .before .before .before .before .before .before .before .before .label-of .result) (c .before .before .before .before .before .before .before .before .before .before .before .before .before .before .before .before .before .before .x-of .result) (c .before .before .before .before .before .before .before .before .before .meets .ensures) (c .before .before .before .before .before .before .before .before .before .before .mask-of .ensures) (c .before .before .before .before .before .before .before .before .before .before .before .label-of .ensures) (c .before .before .before .before .before .before .before .before .before .before .before .before .before .before .before .before .before .before .x-of .ensures)) ∙ c .before .before .before .before .before .before .before .before .if1 .taken) (c .before .before .before .before .before .before .before .before .before .before .before .before .before .before .before .before .before .y-of .result) (c .before .before .before .before .before .before .target-of .result .0) (c .before .before .before .before .before .before .before .before .before .before .before .before .before .before .before .before .before .y-of .ensures) (c .before .before .before .before .before .before .target-of .ensures) (c .before .before .before .before .before .decide .result) _ (c .before .before .before .before .before .decide .ensures) (ap (Bool·beq (verdictIn (c .before .before .before .before .before .decide .result))) (sym (c .before .before .before .before .before .before .before .before .before .before .before .before .before .before .before .before .before .before .before .before .before .pre .1 .1)) ∙ (sym (c .before .before .decides .ensures) ∙ c .before .if2 .left)) _ (c .both2 .ensures) (c .before .before .before .before .before .decide .kept .1 .1 .0))
+  follow-loop-again c = (c .before .before .before .before .before .before .before .before .before .before .before .before .before .loop .inv .0, turn-on (now (c .before .before .before .before .before .before .before .before .before .before .before .before .before .before .before .before .before .before .before .before .args .sheet)) (now (c .before .before .before .before .before .before .before .before .before .before .before .before .before .before .before .before .before .before .before .before .args .index)) (now (c .before .before .before .before .before .before .before .before .before .before .before .before .before .before .before .before .before .before .before .before .args .table)) (c .before .before .before .before .before .before .before .before .before .before .before .before .before .before .before .before .before .before .before .before .args .node .0) (c .before .before .before .before .before .before .before .before .before .before .before .before .before .before .before .before .before .before .before .before .args .state .0) (c .before .before .before .before .before .before .before .before .before .before .before .before .before .loop .inv .0) _ _ _ _ _ (c .before .before .before .before .before .before .before .before .before .before .before .before .before .loop .inv .1) (c .before .before .before .before .before .before .before .before .before .before .before .before .loop-test .taken) (sym (met (now (c .before .before .before .before .before .before .before .before .before .before .before .before .before .before .before .before .before .before .before .before .args .sheet)) (now (c .before .before .before .before .before .before .before .before .before .before .before .before .before .before .before .before .before .before .before .before .args .index)) (now (c .before .before .before .before .before .before .before .before .before .before .before .before .before .before .before .before .before .before .before .before .args .table)) (c .before .before .before .before .before .before .before .before .before .before .before .before .before .before .before .before .before .before .before .before .args .node .0) (c .before .before .before .before .before .before .before .before .before .before .before .before .before .before .before .before .before .before .before .before .args .state .0) (c .before .before .before .before .before .before .before .before .before .before .before .before .before .loop .inv .0) _ _ _ _ _ (c .before .before .before .before .before .before .before .before .before .before .before .before .before .loop .inv .1) (c .before .before .before .before .before .before .before .before .before .before .before .before .loop-test .taken) (c .before .before .before .before .before .before .before .before .before .meets .result) (c .before .before .before .before .before .before .before .before .before .before .mask-of .result) (c .before .before .before .before .before .before .before .before .before .before .before .label-of .result .0) (c .before .before .before .before .before .before .before .before .before .before .before .before .before .before .before .before .before .x-of .result) (c .before .before .before .before .before .before .before .before .before .meets .ensures) (c .before .before .before .before .before .before .before .before .before .before .mask-of .ensures) (c .before .before .before .before .before .before .before .before .before .before .before .label-of .ensures) (c .before .before .before .before .before .before .before .before .before .before .before .before .before .before .before .before .before .x-of .ensures)) ∙ c .before .before .before .before .before .before .before .before .if1 .taken) (c .before .before .before .before .before .before .before .before .before .before .before .before .before .before .before .before .y-of .result) (c .before .before .before .before .before .before .target-of .result .0) (c .before .before .before .before .before .before .before .before .before .before .before .before .before .before .before .before .y-of .ensures) (c .before .before .before .before .before .before .target-of .ensures) (c .before .before .before .before .before .decide .result) _ (c .before .before .before .before .before .decide .ensures) (ap (Bool·beq (verdictIn (c .before .before .before .before .before .decide .result))) (sym (c .before .before .before .before .before .before .before .before .before .before .before .before .before .before .before .before .before .before .before .before .pre .1 .1)) ∙ (sym (c .before .before .decides .ensures) ∙ c .before .if2 .left)) _ (c .both2 .ensures) (c .before .before .before .before .before .decide .kept .1 .1 .0))
 
   follow-add-i-2 : follow-lts.Need-add-i-2 (follow-claims t) (follow-at t) follow.Post follow-Inv-loop follow-μ-loop
   follow-add-i-2 c = omega (arith, c .before .before .before .before .before .loop .inv .1 .few, c .before .before .before .before .before .loop .inv .1 .within)
@@ -309,19 +305,19 @@ module _ (t : ℕ) where
   follow-loop-less-2 c = omega (arith, c .before .before .before .before .before .loop .inv .1 .few, c .before .before .before .before .before .loop .inv .1 .within)
 
   follow-loop-again-2 : follow-lts.Need-loop-again-2 (follow-claims t) (follow-at t) follow.Post follow-Inv-loop follow-μ-loop
-  follow-loop-again-2 c = (c .before .before .before .before .before .loop .inv .0, turn-past (now (c .before .before .before .before .before .before .before .before .before .before .before .before .before .args .sheet)) (now (c .before .before .before .before .before .before .before .before .before .before .before .before .before .args .index)) (now (c .before .before .before .before .before .before .before .before .before .before .before .before .before .args .table)) (c .before .before .before .before .before .before .before .before .before .before .before .before .before .args .node .0) (c .before .before .before .before .before .before .before .before .before .before .before .before .before .args .state .0) (c .before .before .before .before .before .loop .inv .0) _ _ _ _ _ (c .before .before .before .before .before .loop .inv .1) (c .before .before .before .before .loop-test .taken) (sym (met (now (c .before .before .before .before .before .before .before .before .before .before .before .before .before .args .sheet)) (now (c .before .before .before .before .before .before .before .before .before .before .before .before .before .args .index)) (now (c .before .before .before .before .before .before .before .before .before .before .before .before .before .args .table)) (c .before .before .before .before .before .before .before .before .before .before .before .before .before .args .node .0) (c .before .before .before .before .before .before .before .before .before .before .before .before .before .args .state .0) (c .before .before .before .before .before .loop .inv .0) _ _ _ _ _ (c .before .before .before .before .before .loop .inv .1) (c .before .before .before .before .loop-test .taken) (c .before .meets .result) (c .before .before .mask-of .result) (c .before .before .before .label-of .result) (c .before .before .before .before .before .before .before .before .before .before .x-of .result) (c .before .meets .ensures) (c .before .before .mask-of .ensures) (c .before .before .before .label-of .ensures) (c .before .before .before .before .before .before .before .before .before .before .x-of .ensures)) ∙ c .if1 .left))
+  follow-loop-again-2 c = (c .before .before .before .before .before .loop .inv .0, turn-past (now (c .before .before .before .before .before .before .before .before .before .before .before .before .args .sheet)) (now (c .before .before .before .before .before .before .before .before .before .before .before .before .args .index)) (now (c .before .before .before .before .before .before .before .before .before .before .before .before .args .table)) (c .before .before .before .before .before .before .before .before .before .before .before .before .args .node .0) (c .before .before .before .before .before .before .before .before .before .before .before .before .args .state .0) (c .before .before .before .before .before .loop .inv .0) _ _ _ _ _ (c .before .before .before .before .before .loop .inv .1) (c .before .before .before .before .loop-test .taken) (sym (met (now (c .before .before .before .before .before .before .before .before .before .before .before .before .args .sheet)) (now (c .before .before .before .before .before .before .before .before .before .before .before .before .args .index)) (now (c .before .before .before .before .before .before .before .before .before .before .before .before .args .table)) (c .before .before .before .before .before .before .before .before .before .before .before .before .args .node .0) (c .before .before .before .before .before .before .before .before .before .before .before .before .args .state .0) (c .before .before .before .before .before .loop .inv .0) _ _ _ _ _ (c .before .before .before .before .before .loop .inv .1) (c .before .before .before .before .loop-test .taken) (c .before .meets .result) (c .before .before .mask-of .result) (c .before .before .before .label-of .result .0) (c .before .before .before .before .before .before .before .before .before .x-of .result) (c .before .meets .ensures) (c .before .before .mask-of .ensures) (c .before .before .before .label-of .ensures) (c .before .before .before .before .before .before .before .before .before .x-of .ensures)) ∙ c .if1 .left))
 
   follow-number-of-requires : follow-lts.Need-number-of-requires (follow-claims t) (follow-at t) follow.Post follow-Inv-loop follow-μ-loop
   follow-number-of-requires c κs = search needs
 
   follow-both-requires-3 : follow-lts.Need-both-requires-3 (follow-claims t) (follow-at t) follow.Post follow-Inv-loop follow-μ-loop
-  follow-both-requires-3 c κs = (sum-small (now (c .before .before .before .before .before .before .before .before .before .before .args .sheet)) (now (c .before .before .before .before .before .before .before .before .before .before .args .index)) (now (c .before .before .before .before .before .before .before .before .before .before .args .table)) (c .before .before .before .before .before .before .before .before .before .before .args .node .0) (c .before .before .before .before .before .before .before .before .before .before .args .state .0) (c .before .before .loop .inv .0) _ _ _ _ _ (c .before .before .loop .inv .1), omega (arith, c .number-of .ensures .1))
+  follow-both-requires-3 c κs = (sum-small (now (c .before .before .before .before .before .before .before .before .before .args .sheet)) (now (c .before .before .before .before .before .before .before .before .before .args .index)) (now (c .before .before .before .before .before .before .before .before .before .args .table)) (c .before .before .before .before .before .before .before .before .before .args .node .0) (c .before .before .before .before .before .before .before .before .before .args .state .0) (c .before .before .loop .inv .0) _ _ _ _ _ (c .before .before .loop .inv .1), omega (arith, c .number-of .ensures .1))
 
   follow-same-length-2 : follow-lts.Need-same-length-2 (follow-claims t) (follow-at t) follow.Post follow-Inv-loop follow-μ-loop
   follow-same-length-2 c = c .before .before .before .loop .inv .1 .long
 
   follow-returns-2 : follow-lts.Need-returns-2 (follow-claims t) (follow-at t) follow.Post follow-Inv-loop follow-μ-loop
-  follow-returns-2 c = finish (now (c .before .before .before .before .before .before .before .before .before .before .before .args .sheet)) (now (c .before .before .before .before .before .before .before .before .before .before .before .args .index)) (now (c .before .before .before .before .before .before .before .before .before .before .before .args .table)) (c .before .before .before .before .before .before .before .before .before .before .before .args .node .0) (c .before .before .before .before .before .before .before .before .before .before .before .args .state .0) (c .before .before .before .loop .inv .0) _ _ _ _ _ (c .before .before .before .loop .inv .1) (c .before .before .loop-test .left) _ (c .before .before .before .before .before .before .before .before .before .before .before .pre .1 .1) _ _ (c .before .number-of .ensures .0) (c .both3 .ensures)
+  follow-returns-2 c = finish (now (c .before .before .before .before .before .before .before .before .before .before .args .sheet)) (now (c .before .before .before .before .before .before .before .before .before .before .args .index)) (now (c .before .before .before .before .before .before .before .before .before .before .args .table)) (c .before .before .before .before .before .before .before .before .before .before .args .node .0) (c .before .before .before .before .before .before .before .before .before .before .args .state .0) (c .before .before .before .loop .inv .0) _ _ _ _ _ (c .before .before .before .loop .inv .1) (c .before .before .loop-test .left) _ (c .before .before .before .before .before .before .before .before .before .before .pre .1 .1) _ _ (c .before .number-of .ensures .0) (c .both3 .ensures)
 
 pub +decide+follow-spec : {M : Type 1} → statement M
 +decide+follow-spec =
@@ -383,10 +379,8 @@ pub +decide+follow-spec : {M : Type 1} → statement M
     (λ t. follow-lts.spec (follow-claims t) (follow-at t) follow.Post follow-Inv-loop follow-μ-loop
     (follow-x-of-requires t)
     (follow-y-of-requires t)
-    (follow-cast-from t)
-    (follow-add-first-of t)
+    (follow-end-of-requires t)
     (follow-first-of-requires t)
-    (follow-first-of-requires-2 t)
     (follow-loop-holds t)
     (follow-label-of-requires t)
     (follow-mask-of-requires t)
