@@ -1,8 +1,8 @@
 // Deciding a cell and following its transitions call on one another, with the table handed on (DAGSOLVE, Figure 1 of document 000).
 use crate::fields::binder_of;
 use crate::fields::both;
-use crate::fields::close;
 use crate::fields::end_of;
+use crate::fields::fill_cell;
 use crate::fields::first_of;
 use crate::fields::is_true;
 use crate::fields::kind_of;
@@ -82,45 +82,45 @@ pub(crate) fn decide(
     }
     let k = kind_of(sheet, index, node);
     match k {
-        0 => close(table, at, 0),
-        1 => close(table, at, 1),
+        0 => fill_cell(table, at, 0),
+        1 => fill_cell(table, at, 1),
         2..=3 => {
             let x = x_of(sheet, index, node);
             let first = decide(sheet, index, table, mark, Node(x), state);
             if decides(k == 2, first) {
-                return close(table, at, first);
+                return fill_cell(table, at, first);
             }
             let y = y_of(sheet, index, node);
             let second = decide(sheet, index, table, mark, Node(y), state);
             let w = both(first, second);
-            close(table, at, w)
+            fill_cell(table, at, w)
         }
         4 => {
             let w = follow(sheet, index, table, node, state, true);
-            close(table, at, w)
+            fill_cell(table, at, w)
         }
         5 => {
             let w = follow(sheet, index, table, node, state, false);
-            close(table, at, w)
+            fill_cell(table, at, w)
         }
         6 => {
             let x = x_of(sheet, index, node);
             let binder = binder_of(index, Variable(x));
             if is_outer(Variable(x), mark) {
                 let w = decide(sheet, index, table, 0, binder, state);
-                return close(table, at, w);
+                return fill_cell(table, at, w);
             }
             let w = number_of(kind_of(sheet, index, binder) == 8);
-            close(table, at, w)
+            fill_cell(table, at, w)
         }
         7..=8 => {
             let x = x_of(sheet, index, node);
             let y = y_of(sheet, index, node);
             let inner = opening(Variable(x), mark);
             let w = decide(sheet, index, table, inner, Node(y), state);
-            close(table, at, w)
+            fill_cell(table, at, w)
         }
-        _ => close(table, at, 0),
+        _ => fill_cell(table, at, 0),
     }
 }
 

@@ -11,7 +11,7 @@ ghost use Rattle.sheet.specs.Plan.{label, target};
 ghost use Rattle.sheet.specs.Rule.{nodeKind, nodeX, nodeY};
 ghost use Rattle.sheet.specs.Bytes.{byte};
 ghost use Rattle.judge.specs.Tables.{byte as valueByte};
-ghost use Rattle.judge.specs.Deciding.{NodeAt, TransitionAt, Known, Joined, Closed, verdictIn};
+ghost use Rattle.judge.specs.Deciding.{NodeAt, TransitionAt, Known, Joined, CellFilled, verdictIn};
 
 pub(crate) fn wide(x: u8) -> usize
     ensures { λ r. ⌜ (r ≡ x) × (r < 256) ⌝ }
@@ -147,9 +147,9 @@ pub(crate) fn both(first: u32, second: u32) -> u32
 }
 
 // The cell at a byte is given its value, and counts as one visit more.
-pub(crate) fn close(table: &mut [u8], at: usize, w: u32) -> u32
+pub(crate) fn fill_cell(table: &mut [u8], at: usize, w: u32) -> u32
     requires { ⌜ (at < length (now table)) × (w < 1000000000) ⌝ }
-    ensures { λ r. ⌜ Closed w r ⌝ }
+    ensures { λ r. ⌜ CellFilled w r ⌝ }
     ensures { λ _. ⌜ now (table .exit) ≡ set (now (table .entry)) at (valueByte (verdictIn w)) ⌝ }
 {
     if is_true(w) {
