@@ -44,6 +44,7 @@ fn zero(table: &mut [u8], size: usize)
     }
 }
 
+// "Clearing sets them to 0; it doesn't look for loops."
 pub fn clear(sheet: &[u8], table: &mut [u8]) -> Cleared
     ensures { λ r. ⌜ r ≡ clearedOf (now (sheet .entry)) (now (table .entry)) ⌝ }
     ensures { λ r. ⌜ reportedClear r ≡ clearReportOf (now (sheet .entry)) (now (table .entry)) ⌝ }

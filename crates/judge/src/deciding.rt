@@ -124,8 +124,7 @@ pub(crate) fn decide(
     }
 }
 
-// The cells that the transitions of a state lead to, in plan order, up to the first that decides; or says whether the node is a "some". Called
-// at two places, it is compiled apart, which keeps the frame of decide small.
+// The cells that the transitions of a state lead to, in plan order, up to the first that decides; or says whether the node is a "some".
 fn follow(
     sheet: &[u8],
     index: &[u32; 416],

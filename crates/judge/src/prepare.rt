@@ -127,7 +127,7 @@ fn put_masks(plan: &[u8], actions: &[u8], index: &mut [u32; 416])
     }
 }
 
-// The numbers of an accepted sheet: 0 where nothing is to be known.
+// The index of an accepted sheet; places that no step fills stay 0.
 pub(crate) fn prepare(sheet: &[u8]) -> [u32; 416]
     requires { ⌜ sheetCheck (now sheet) ≡ Passed ⌝ }
     ensures { λ index. ⌜ Prepared (now (sheet .entry)) index ⌝ }
