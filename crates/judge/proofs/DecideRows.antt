@@ -24,7 +24,7 @@ use Rattle.judge.specs.Tables.{byte as valueByte}
 use Rattle.judge.specs.Solver.{walk}
 use Rattle.judge.specs.Cells.{Cell, cell, only, following, opened, outer, constantOf, rows, indexOf, marks}
 use Rattle.judge.specs.Clearing.{sizeOf}
-use Rattle.judge.specs.Deciding.{Prepared, Decidable, Following, NodeAt, resultAt, verdictIn, visitsIn, Known, Joined, Closed, Decided, connectiveOf, Followed}
+use Rattle.judge.specs.Deciding.{Prepared, Decidable, Following, NodeAt, resultAt, verdictIn, visitsIn, Known, Joined, CellFilled, Decided, connectiveOf, Followed}
 use Rattle.judge.proofs.Systems.{Each}
 use Rattle.judge.proofs.BindersAbove.{bound-above, above-below, above-counted}
 use Rattle.judge.proofs.ValidCells.{Valid}
@@ -33,7 +33,7 @@ use Rattle.judge.proofs.CellLayout.{layout}
 use Rattle.judge.proofs.FollowWalk.{walkRank}
 use Rattle.judge.proofs.QuerySteps.{walk-none, walk-only, walk-both}
 use Rattle.judge.proofs.Solver.{walk-decided}
-use Rattle.judge.proofs.DecideSteps.{bodies, valid, decidable, known-cell, closed-cell}
+use Rattle.judge.proofs.DecideSteps.{bodies, valid, decidable, known-cell, filled-cell}
 
 -- ---- the rows, by the kind
 

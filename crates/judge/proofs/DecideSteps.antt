@@ -23,11 +23,11 @@ use Rattle.calculus.specs.Decode.{planOf}
 use Rattle.judge.specs.Rows.{Connective, disjunction, conjunction, Row, deciding, decides}
 use Rattle.judge.specs.Tables.{byteAt, empty, known, Result, out, visits, constant}
 use Rattle.judge.specs.Tables.{byte as valueByte}
-use Rattle.judge.specs.Solver.{closing, walk}
+use Rattle.judge.specs.Solver.{fillCell, walk}
 use Rattle.judge.specs.Loops.{settled}
 use Rattle.judge.specs.Cells.{Cell, cell, only, following, opened, outer, constantOf, rows, enough, marks, cellCount, indexOf, cellAt, successors, MarkRight, CellOf}
 use Rattle.judge.specs.Clearing.{sizeOf}
-use Rattle.judge.specs.Deciding.{Prepared, Decidable, Following, resultAt, verdictIn, visitsIn, Known, Joined, Closed, Decided, connectiveOf, walkAt, Followed}
+use Rattle.judge.specs.Deciding.{Prepared, Decidable, Following, resultAt, verdictIn, visitsIn, Known, Joined, CellFilled, Decided, connectiveOf, walkAt, Followed}
 use Rattle.judge.proofs.Systems.{Each, Solvable}
 use Rattle.judge.proofs.BindersAbove.{above-below, below-above, above-counted, below-tested, tested-below}
 use Rattle.judge.proofs.ValidCells.{Marked, Valid, valid-entries}
@@ -118,13 +118,13 @@ module _ (s : List ℕ) (accepted : sheetCheck s ≡ Passed) where
         sym (query-known sol c v t room (ne-eqb (byteAt t (indexOf (ruleBody s) c)) 0 (λ q. h (sym e ∙ q))) ∙ ap (λ (x : ℕ). out (known x) 0 t) e))
 
     module _ (e : byteAt t (indexOf (ruleBody s) c) ≡ 0) where
-      by-row : resultAt s c t ≡ closing (indexOf (ruleBody s) c) (walk (λ d u. resultAt s d u) (rows (planBody s) (actionsBody s) (ruleBody s) c .connective) (rows (planBody s) (actionsBody s) (ruleBody s) c .entries) t)
+      by-row : resultAt s c t ≡ fillCell (indexOf (ruleBody s) c) (walk (λ d u. resultAt s d u) (rows (planBody s) (actionsBody s) (ruleBody s) c .connective) (rows (planBody s) (actionsBody s) (ruleBody s) c .entries) t)
       by-row = query-row sol c v t room (eq-eqb (byteAt t (indexOf (ruleBody s) c)) 0 e)
 
       -- the row, and what the walk along it gives
-      pub closed-cell : (row : Row Cell) → rows (planBody s) (actionsBody s) (ruleBody s) c ≡ row → (w r : ℕ) (u : List ℕ) → out (verdictIn w) (visitsIn w) u ≡ walk (λ d x. resultAt s d x) (row .connective) (row .entries) t → Closed w r → Decided s c t r (set u (indexOf (ruleBody s) c) (valueByte (verdictIn w)))
-      closed-cell row f w r u g k =
+      pub filled-cell : (row : Row Cell) → rows (planBody s) (actionsBody s) (ruleBody s) c ≡ row → (w r : ℕ) (u : List ℕ) → out (verdictIn w) (visitsIn w) u ≡ walk (λ d x. resultAt s d x) (row .connective) (row .entries) t → CellFilled w r → Decided s c t r (set u (indexOf (ruleBody s) c) (valueByte (verdictIn w)))
+      filled-cell row f w r u g k =
           decided c t r (set u (indexOf (ruleBody s) c) (valueByte (verdictIn w)))
           ((λ i. out (k .verdict-is i) (k .visits-are i) (set u (indexOf (ruleBody s) c) (valueByte (verdictIn w)))) ∙
-          (ap (closing (indexOf (ruleBody s) c)) g ∙
-          sym (by-row ∙ ap (λ (x : Row Cell). closing (indexOf (ruleBody s) c) (walk (λ d y. resultAt s d y) (x .connective) (x .entries) t)) f)))
+          (ap (fillCell (indexOf (ruleBody s) c)) g ∙
+          sym (by-row ∙ ap (λ (x : Row Cell). fillCell (indexOf (ruleBody s) c) (walk (λ d y. resultAt s d y) (x .connective) (x .entries) t)) f)))

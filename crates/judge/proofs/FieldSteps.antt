@@ -19,7 +19,7 @@ use Rattle.sheet.specs.declared.Check.the-variants.{Passed}
 use Rattle.sheet.proofs.Accepted.{accepted-iff, plan-length, rule-length}
 use Rattle.judge.specs.Tables.{known}
 use Rattle.judge.specs.Tables.{byte as valueByte}
-use Rattle.judge.specs.Deciding.{verdictIn, visitsIn, Known, Joined, Closed}
+use Rattle.judge.specs.Deciding.{verdictIn, visitsIn, Known, Joined, CellFilled}
 
 part-byte : (s : List ℕ) (offset size j : ℕ) → j < size → byte (take size (drop offset s)) j ≡ byte s (offset + j)
 part-byte s offset size j h = getD-take size (drop offset s) j 0 h ∙ getD-drop offset s j 0
@@ -77,8 +77,8 @@ same-parity a b e = ap (λ (k : ℕ). eqb k 1) e
 pub joined : (first second : ℕ) → Joined first second (first / 2 * 2 + second)
 joined first second = record { verdict-is = same-parity (first / 2 * 2 + second) second (omega arith); visits-are = omega arith; small = omega arith }
 
-pub closed : (w : ℕ) → Closed w (w + 2)
-closed w = record { verdict-is = same-parity (w + 2) w (omega arith); visits-are = omega arith; small = refl }
+pub cell-filled : (w : ℕ) → CellFilled w (w + 2)
+cell-filled w = record { verdict-is = same-parity (w + 2) w (omega arith); visits-are = omega arith; small = refl }
 
 pub true-byte : (w : ℕ) → verdictIn w ≡ true → 2 ≡ valueByte (verdictIn w)
 true-byte w e = rw e

@@ -7,6 +7,7 @@ use mathlib.Core.Logic.{inl, inr}
 use mathlib.Core.Path.{_≡_, sym, ap, subst, _∙_}
 use native.Mathlib.Omega.{arith}
 use native.Mathlib.Decide.{decLt}
+use lib.ListN.{getD}
 use lib.Dec.{leb}
 use borrow.Author.Tests.{leb-true, leb-false}
 use Rattle.sheet.specs.Plan.{stateCount, transitionCount, origin, label, target}
@@ -20,6 +21,12 @@ use Rattle.judge.specs.Cells.{successors}
 use Rattle.judge.specs.Deciding.{firstFrom}
 use Rattle.judge.proofs.Settled.{every-all, settled-reaches-none, settled-exactly}
 use Rattle.judge.proofs.Successors.{target-among, target-of, successor-below}
+
+-- where a state's transitions end, in an index that says where each state's begin
+pub end-place : (p index : List ℕ) → ((state : ℕ) → state ≤ stateCount p → getD index (16 + state) 0 ≡ firstFrom p state) → (s : ℕ) → s < stateCount p → getD index (17 + s) 0 ≡ firstFrom p (s + 1)
+end-place p index firsts s h =
+    let e : 17 + s ≡ 16 + (s + 1) = omega arith in
+    ap (λ (k : ℕ). getD index k 0) e ∙ firsts (s + 1) (omega arith)
 
 module _ (p : List ℕ) (kept : PlanKept p) where
   origin-rises : (i : ℕ) → suc i < transitionCount p → origin p i ≤ origin p (suc i)

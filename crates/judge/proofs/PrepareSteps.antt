@@ -60,33 +60,33 @@ set-below l n v i h =
     let differ : i ≡ n → ⊥ = λ e. omega arith in
     getD-set-other l n i v 0 differ
 
-pub same-start : (at : ℕ) (l : List ℕ) → SameBefore at l l
-same-start at l i h = refl
+module _ (R : ℕ → ℕ → Type 0) (base : ℕ) (old : List ℕ) where
+  -- what is asked of the first n places from a base on holds, and those before are as they were
+  pub record Filled (n : ℕ) (l : List ℕ) : Type 0 where
+    pub size : length l ≡ 416
+    pub same : SameBefore base old l
+    pub filled : (k : ℕ) → k < n → R k (getD l (base + k) 0)
 
-pub same-set : (at : ℕ) (old new : List ℕ) (n v : ℕ) → at ≤ n → SameBefore at old new → SameBefore at old (set new n v)
-same-set at old new n v h same i l = set-below new n v i (omega arith) ∙ same i l
+  pub filled-none : length old ≡ 416 → Filled 0 old
+  filled-none size = record { size = size; same = λ i h. refl; filled = λ k h. absurd (omega arith) }
 
-module _ (R : ℕ → ℕ → Type 0) (base : ℕ) where
-  -- what is asked of the first n places from a base on
-  abbrev pub Filled : ℕ → List ℕ → Type 0
-  Filled n l = (k : ℕ) → k < n → R k (getD l (base + k) 0)
-
-  pub filled-none : (l : List ℕ) → Filled 0 l
-  filled-none l k h = absurd (omega arith)
-
-  pub filled-more : (n v : ℕ) (l : List ℕ) → base + n < length l → Filled n l → R n v → Filled (n + 1) (set l (base + n) v)
-  filled-more n v l h all here k m =
-      elim (ℕ-discrete k n) [
-        | yes e ↦ rw (e, getD-set-same l (base + n) v 0 h) here
+  module _ (n : ℕ) (l : List ℕ) (f : Filled n l) where
+    pub filled-more : (v : ℕ) → base + n < 416 → R n v → Filled (n + 1) (set l (base + n) v)
+    filled-more v h here = record {
+      size = length-set l (base + n) v ∙ f .size;
+      same = λ i m. set-below l (base + n) v i (omega arith) ∙ f .same i m;
+      filled = λ k m. elim (ℕ-discrete k n) [
+        | yes e ↦ rw (e, getD-set-same l (base + n) v 0 (omega (arith, f .size))) here
         | no e ↦
-            let differ : base + k ≡ base + n → ⊥ = λ f. e (omega arith) in
+            let differ : base + k ≡ base + n → ⊥ = λ g. e (omega arith) in
             let lower : k < n = omega (arith, differ) in
-            rw (getD-set-other l (base + n) (base + k) v 0 differ) (all k lower)
-      ]
+            rw (getD-set-other l (base + n) (base + k) v 0 differ) (f .filled k lower)
+      ];
+    }
 
-  -- a place that is right as it is
-  pub filled-next : (n : ℕ) (l : List ℕ) → Filled n l → R n (getD l (base + n) 0) → Filled (n + 1) l
-  filled-next n l = below-more (λ k. R k (getD l (base + k) 0)) n
+    -- a place that is right as it is
+    pub filled-next : R n (getD l (base + n) 0) → Filled (n + 1) l
+    filled-next here = record { size = f .size; same = f .same; filled = below-more (λ k. R k (getD l (base + k) 0)) n (f .filled) here }
 
 -- ---- actions that occur
 

@@ -7,7 +7,7 @@ use native.Mathlib.Omega.{arith}
 use lib.ListN.{length, set}
 use Rattle.judge.specs.Rows.{Connective, Row, deciding, decides}
 use Rattle.judge.specs.Tables.{byteAt, empty, known, byte, Result, out, visits, count, fills, query}
-use Rattle.judge.specs.Solver.{after, closing, walk, step, solve}
+use Rattle.judge.specs.Solver.{after, fillCell, walk, step, solve}
 use Rattle.judge.proofs.Systems.{Each, Solvable}
 use Rattle.judge.proofs.Fuel.{each-map}
 use Rattle.judge.proofs.Bytes.{count-le}
@@ -30,13 +30,13 @@ module _ {C : Type 0} {index : C → ℕ} {rows : C → Row C} {size : ℕ} {cel
   entries-queried : (c : C) → Valid c → Each (Solves s Q) (rows c .entries)
   entries-queried c v = each-map (λ d h. (h .0, λ t fits. query-answer s t d)) (rows c .entries) (s .falling .falls c v)
 
-  pub query-row : (c : C) → Valid c → (t : List ℕ) → size ≤ length t → empty (byteAt t (index c)) ≡ true → Q c t ≡ closing (index c) (walk Q (rows c .connective) (rows c .entries) t)
+  pub query-row : (c : C) → Valid c → (t : List ℕ) → size ≤ length t → empty (byteAt t (index c)) ≡ true → Q c t ≡ fillCell (index c) (walk Q (rows c .connective) (rows c .entries) t)
   query-row c v t fits e =
       query-answer s t c ∙
       (sym (solve-answer s (suc F) c v (omega (arith, s .fuelled c v)) t fits) ∙
       (unrolled c t ∙
       (step-empty index rows (λ d u. solve index rows F d u) c t e ∙
-      ap (closing (index c))
+      ap (fillCell (index c))
       (walk-solves s (λ d u. solve index rows F d u) (rows c .connective) (rows c .entries) (entries-solved c v) t fits ∙
       sym (walk-solves s Q (rows c .connective) (rows c .entries) (entries-queried c v) t fits)))))
 

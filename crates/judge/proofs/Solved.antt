@@ -18,7 +18,7 @@ use Rattle.judge.proofs.Needs.{changed-solvable, solution, needed, need
 use Rattle.judge.proofs.Extension.{Extends, looked-constant}
 use Rattle.judge.proofs.Filling.{fills-empty, fills-true, fill, fill-length, fill-above, fill-old, fill-new, fill-same, fills-other, fill-extends, Whole}
 use Rattle.judge.proofs.Walks.{out-path, fill-none, need-whole, along, answer, query-answer, walked, walk-solves, Solves}
-use Rattle.judge.specs.Solver.{step, solve, closing}
+use Rattle.judge.specs.Solver.{step, solve, fillCell}
 use Rattle.judge.proofs.Systems.{Each, Falling, Layout, Solvable}
 use Rattle.judge.proofs.Solver.{step-empty, step-filled}
 
@@ -82,7 +82,7 @@ module _ {C : Type 0} {index : C → ℕ} {rows : C → Row C} {size : ℕ} {cel
           go i false q =
               getD-set-other (fill s t l) (index c) i _ 0 (λ e. eqb-false (index c) i q (sym e)) ∙ fill-same s t l (c ∷ l) fits i (sym (fills-other index t c l i q))
 
-    answer-empty : empty (byteAt t (index c)) ≡ true → closing (index c) (walked s t (rows c .connective) (rows c .entries)) ≡ answer s t c
+    answer-empty : empty (byteAt t (index c)) ≡ true → fillCell (index c) (walked s t (rows c .connective) (rows c .entries)) ≡ answer s t c
     answer-empty free =
         let own : changed index rows t c ≡ rows c = changed-empty index rows t c free in
         let l : List C = along s t (rows c .connective) (rows c .entries) in
@@ -101,7 +101,7 @@ module _ {C : Type 0} {index : C → ℕ} {rows : C → Row C} {size : ℕ} {cel
       go (empty (byteAt t (index c))) refl (each-map (λ d (q : Valid d × (rank d < rank c)). (q .0, solve-answer f d (q .0) (omega arith))) (rows c .entries) (s .falling .falls c vc))
     where
       go : (b : Bool) → empty (byteAt t (index c)) ≡ b → Each (Solves s (λ d u. solve index rows f d u)) (rows c .entries) → step index rows (λ d u. solve index rows f d u) c t ≡ answer s t c
-      go true e rest = step-empty index rows _ c t e ∙ ap (closing (index c)) (walk-solves s _ (rows c .connective) (rows c .entries) rest t fits) ∙ answer-empty t fits c vc e
+      go true e rest = step-empty index rows _ c t e ∙ ap (fillCell (index c)) (walk-solves s _ (rows c .connective) (rows c .entries) rest t fits) ∙ answer-empty t fits c vc e
       go false e rest = step-filled index rows _ c t e ∙ answer-filled t fits c vc e
 
   -- what holds of the table that a query leaves

@@ -5,7 +5,7 @@ use mathlib.Core.Path.{_≡_}
 use Prim.Native.Nat.{ℕ}
 use Rattle.judge.specs.Rows.{Connective, Row, decides}
 use Rattle.judge.specs.Tables.{byteAt, empty, known, Result, out}
-use Rattle.judge.specs.Solver.{after, closing, walk, step}
+use Rattle.judge.specs.Solver.{after, fillCell, walk, step}
 
 module _ {C : Type 0} (rec : C → List ℕ → Result) (k : Connective) where
   pub walk-decided : (d : C) (ds : List C) (t : List ℕ) (v : Bool) (n : ℕ) (u : List ℕ) → rec d t ≡ out v n u → decides k v ≡ true → walk rec k (d ∷ ds) t ≡ out v n u
@@ -17,7 +17,7 @@ module _ {C : Type 0} (rec : C → List ℕ → Result) (k : Connective) where
   walk-on d ds t v n u e q = rw (e, walk) (rw q)
 
 module _ {C : Type 0} (index : C → ℕ) (rows : C → Row C) (rec : C → List ℕ → Result) (c : C) (t : List ℕ) where
-  pub step-empty : empty (byteAt t (index c)) ≡ true → step index rows rec c t ≡ closing (index c) (walk rec (rows c .connective) (rows c .entries) t)
+  pub step-empty : empty (byteAt t (index c)) ≡ true → step index rows rec c t ≡ fillCell (index c) (walk rec (rows c .connective) (rows c .entries) t)
   unfolding step
   step-empty e = rw (e, step)
 

@@ -90,7 +90,7 @@ pub record Joined (first second r : ℕ) : Type 0 where
   pub small : r ≤ first + second
 
 -- r has the verdict of w and one visit more
-pub record Closed (w r : ℕ) : Type 0 where
+pub record CellFilled (w r : ℕ) : Type 0 where
   pub verdict-is : verdictIn r ≡ verdictIn w
   pub visits-are : visitsIn r ≡ visitsIn w + 1
   pub small : r ≡ w + 2

@@ -11,8 +11,8 @@ abbrev pub after : ℕ → Result → Result
 after n (out v k t) = out v (n + k) t
 
 -- the cell at i is given its value, and counts as one visit more
-abbrev pub closing : ℕ → Result → Result
-closing i (out v k t) = out v (k + 1) (set t i (byte v))
+abbrev pub fillCell : ℕ → Result → Result
+fillCell i (out v k t) = out v (k + 1) (set t i (byte v))
 
 module _ {C : Type 0} (rec : C → List ℕ → Result) (k : Connective) where
   -- the entries of a row in order, each with the table so far, up to the first that decides
@@ -23,7 +23,7 @@ module _ {C : Type 0} (rec : C → List ℕ → Result) (k : Connective) where
 module _ {C : Type 0} (index : C → ℕ) (rows : C → Row C) where
   unfoldable pub step : (C → List ℕ → Result) → C → List ℕ → Result
   step rec c t =
-      elim (empty (byteAt t (index c))) [ true ↦ closing (index c) (walk rec (rows c .connective) (rows c .entries) t) | false ↦ out (known (byteAt t (index c))) 0 t ]
+      elim (empty (byteAt t (index c))) [ true ↦ fillCell (index c) (walk rec (rows c .connective) (rows c .entries) t) | false ↦ out (known (byteAt t (index c))) 0 t ]
 
   unfoldable pub solve : ℕ → C → List ℕ → Result
   solve zero c t = out false 0 t

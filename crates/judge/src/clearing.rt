@@ -1,5 +1,6 @@
 // Clearing: the table of a sheet is made empty.
 use crate::Cleared;
+use crate::fields::wide;
 use sheet::Check;
 use sheet::Refusal;
 use sheet::plan::state_count;
@@ -14,12 +15,6 @@ ghost use Prim.Native.Nat.{_+_, _*_, _≤_, _<_};
 ghost use lib.ListN.{length, drop, replicate};
 ghost use Rattle.judge.specs.Clearing.{sizeOf, clearedOf, tableCleared, reportedClear, clearReportOf};
 
-fn wide(x: u8) -> usize
-    ensures { λ r. ⌜ (r ≡ x) × (r < 256) ⌝ }
-{
-    x as usize
-}
-
 fn product(a: usize, b: usize, c: usize) -> usize
     requires { ⌜ (a < 256) × ((b < 256) × (c ≤ 256)) ⌝ }
     ensures { λ r. ⌜ r ≡ a * b * c ⌝ }
@@ -28,7 +23,7 @@ fn product(a: usize, b: usize, c: usize) -> usize
 }
 
 // The number of cells: states × nodes × (binders + 1).
-pub fn cell_count(sheet: &[u8]) -> usize
+pub(crate) fn cell_count(sheet: &[u8]) -> usize
     ensures { λ r. ⌜ r ≡ sizeOf (now (sheet .entry)) ⌝ }
 {
     let rule = rule_body(sheet);
@@ -49,6 +44,7 @@ fn zero(table: &mut [u8], size: usize)
     }
 }
 
+// "Clearing sets them to 0; it doesn't look for loops."
 pub fn clear(sheet: &[u8], table: &mut [u8]) -> Cleared
     ensures { λ r. ⌜ r ≡ clearedOf (now (sheet .entry)) (now (table .entry)) ⌝ }
     ensures { λ r. ⌜ reportedClear r ≡ clearReportOf (now (sheet .entry)) (now (table .entry)) ⌝ }

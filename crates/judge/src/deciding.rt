@@ -1,7 +1,8 @@
 // Deciding a cell and following its transitions call on one another, with the table handed on (DAGSOLVE, Figure 1 of document 000).
 use crate::fields::binder_of;
 use crate::fields::both;
-use crate::fields::close;
+use crate::fields::end_of;
+use crate::fields::fill_cell;
 use crate::fields::first_of;
 use crate::fields::is_true;
 use crate::fields::kind_of;
@@ -15,6 +16,7 @@ use crate::fields::y_of;
 use calculus::meeting::meets;
 use sheet::Node;
 use sheet::State;
+use sheet::Variable;
 ghost use mathlib.Core.Path.{_≡_};
 ghost use mathlib.Core.Bool.{Bool·beq};
 ghost use Prim.Native.Nat.{_+_, _*_, _<_, _≤_};
@@ -33,22 +35,22 @@ fn decides(or: bool, w: u32) -> bool
 }
 
 // Whether variable k stands for its binder's cell under a mark.
-fn is_outer(k: u8, mark: u8) -> bool
-    ensures { λ r. ⌜ r ≡ outer k mark ⌝ }
+fn is_outer(k: Variable, mark: u8) -> bool
+    ensures { λ r. ⌜ r ≡ outer (k .0) mark ⌝ }
 {
     if mark == 0 {
         return true;
     }
-    k < mark - 1
+    k.0 < mark - 1
 }
 
 // The mark under which the child of binder k is decided.
-fn opening(k: u8, mark: u8) -> u8
-    requires { ⌜ k < 6 ⌝ }
-    ensures { λ r. ⌜ r ≡ opened k mark ⌝ }
+fn opening(k: Variable, mark: u8) -> u8
+    requires { ⌜ k .0 < 6 ⌝ }
+    ensures { λ r. ⌜ r ≡ opened (k .0) mark ⌝ }
 {
     if mark == 0 {
-        return k + 1;
+        return k.0 + 1;
     }
     mark
 }
@@ -80,49 +82,49 @@ pub(crate) fn decide(
     }
     let k = kind_of(sheet, index, node);
     match k {
-        0 => close(table, at, 0),
-        1 => close(table, at, 1),
+        0 => fill_cell(table, at, 0),
+        1 => fill_cell(table, at, 1),
         2..=3 => {
             let x = x_of(sheet, index, node);
             let first = decide(sheet, index, table, mark, Node(x), state);
             if decides(k == 2, first) {
-                return close(table, at, first);
+                return fill_cell(table, at, first);
             }
             let y = y_of(sheet, index, node);
             let second = decide(sheet, index, table, mark, Node(y), state);
             let w = both(first, second);
-            close(table, at, w)
+            fill_cell(table, at, w)
         }
         4 => {
             let w = follow(sheet, index, table, node, state, true);
-            close(table, at, w)
+            fill_cell(table, at, w)
         }
         5 => {
             let w = follow(sheet, index, table, node, state, false);
-            close(table, at, w)
+            fill_cell(table, at, w)
         }
         6 => {
             let x = x_of(sheet, index, node);
-            let binder = binder_of(index, x);
-            if is_outer(x, mark) {
+            let binder = binder_of(index, Variable(x));
+            if is_outer(Variable(x), mark) {
                 let w = decide(sheet, index, table, 0, binder, state);
-                return close(table, at, w);
+                return fill_cell(table, at, w);
             }
             let w = number_of(kind_of(sheet, index, binder) == 8);
-            close(table, at, w)
+            fill_cell(table, at, w)
         }
         7..=8 => {
             let x = x_of(sheet, index, node);
             let y = y_of(sheet, index, node);
-            let w = decide(sheet, index, table, opening(x, mark), Node(y), state);
-            close(table, at, w)
+            let inner = opening(Variable(x), mark);
+            let w = decide(sheet, index, table, inner, Node(y), state);
+            fill_cell(table, at, w)
         }
-        _ => close(table, at, 0),
+        _ => fill_cell(table, at, 0),
     }
 }
 
-// The cells that the transitions of a state lead to, in plan order, up to the first that decides; or says whether the node is a "some". Called
-// at two places, it is compiled apart, which keeps the frame of decide small.
+// The cells that the transitions of a state lead to, in plan order, up to the first that decides; or says whether the node is a "some".
 fn follow(
     sheet: &[u8],
     index: &[u32; 416],
@@ -137,9 +139,9 @@ fn follow(
     let n = node.0;
     let entry = x_of(sheet, index, Node(n));
     let child = y_of(sheet, index, Node(n));
-    let from = state.0 as usize;
-    let end = first_of(index, from + 1);
-    let mut i = first_of(index, from);
+    let from = state.0;
+    let end = end_of(index, State(from));
+    let mut i = first_of(index, State(from));
     let mut sum: u32 = 0;
     while i < end {
         if meets(mask_of(index, label_of(sheet, i)), entry) {

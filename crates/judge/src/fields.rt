@@ -1,6 +1,8 @@
 // What the evaluator reads of an accepted sheet and of the numbers prepared for it, and how it packs a verdict with its visits.
+use sheet::Action;
 use sheet::Node;
 use sheet::State;
+use sheet::Variable;
 ghost use mathlib.Core.Path.{_≡_};
 ghost use Prim.Native.Nat.{_+_, _*_, _<_, _≤_};
 ghost use lib.ListN.{length, getD, set};
@@ -9,9 +11,9 @@ ghost use Rattle.sheet.specs.Plan.{label, target};
 ghost use Rattle.sheet.specs.Rule.{nodeKind, nodeX, nodeY};
 ghost use Rattle.sheet.specs.Bytes.{byte};
 ghost use Rattle.judge.specs.Tables.{byte as valueByte};
-ghost use Rattle.judge.specs.Deciding.{NodeAt, TransitionAt, Known, Joined, Closed, verdictIn};
+ghost use Rattle.judge.specs.Deciding.{NodeAt, TransitionAt, Known, Joined, CellFilled, verdictIn};
 
-fn wide(x: u8) -> usize
+pub(crate) fn wide(x: u8) -> usize
     ensures { λ r. ⌜ (r ≡ x) × (r < 256) ⌝ }
 {
     x as usize
@@ -69,11 +71,11 @@ pub(crate) fn y_of(sheet: &[u8], index: &[u32; 416], node: Node) -> u8
 }
 
 // The node of binder k.
-pub(crate) fn binder_of(index: &[u32; 416], k: u8) -> Node
-    requires { ⌜ (k < 6) × (getD (now index) (3 + k) 0 < 256) ⌝ }
-    ensures { λ r. ⌜ r .0 ≡ getD (now (index .entry)) (3 + k) 0 ⌝ }
+pub(crate) fn binder_of(index: &[u32; 416], k: Variable) -> Node
+    requires { ⌜ (k .0 < 6) × (getD (now index) (3 + k .0) 0 < 256) ⌝ }
+    ensures { λ r. ⌜ r .0 ≡ getD (now (index .entry)) (3 + k .0) 0 ⌝ }
 {
-    Node(number(index, 3 + wide(k)) as u8)
+    Node(number(index, 3 + wide(k.0)) as u8)
 }
 
 // A byte of a transition: 5 its action, 6 its target.
@@ -85,11 +87,11 @@ fn transition_byte(sheet: &[u8], i: usize, field: usize) -> u8
     sheet[at]
 }
 
-pub(crate) fn label_of(sheet: &[u8], i: usize) -> u8
+pub(crate) fn label_of(sheet: &[u8], i: usize) -> Action
     requires { ⌜ TransitionAt (now sheet) i ⌝ }
-    ensures { λ r. ⌜ r ≡ label (planBody (now (sheet .entry))) i ⌝ }
+    ensures { λ r. ⌜ r .0 ≡ label (planBody (now (sheet .entry))) i ⌝ }
 {
-    transition_byte(sheet, i, 5)
+    Action(transition_byte(sheet, i, 5))
 }
 
 pub(crate) fn target_of(sheet: &[u8], i: usize) -> State
@@ -99,18 +101,26 @@ pub(crate) fn target_of(sheet: &[u8], i: usize) -> State
     State(transition_byte(sheet, i, 6))
 }
 
-// The first transition of a state or of a later one.
-pub(crate) fn first_of(index: &[u32; 416], state: usize) -> usize
-    requires { ⌜ state ≤ 128 ⌝ }
-    ensures { λ r. ⌜ r ≡ getD (now (index .entry)) (16 + state) 0 ⌝ }
+// Where the transitions of a state begin.
+pub(crate) fn first_of(index: &[u32; 416], state: State) -> usize
+    requires { ⌜ state .0 < 128 ⌝ }
+    ensures { λ r. ⌜ r ≡ getD (now (index .entry)) (16 + state .0) 0 ⌝ }
 {
-    number(index, 16 + state)
+    number(index, 16 + state.0 as usize)
 }
 
-pub(crate) fn mask_of(index: &[u32; 416], action: u8) -> u32
-    ensures { λ r. ⌜ r ≡ getD (now (index .entry)) (160 + action) 0 ⌝ }
+// Where they end: where those of the next state begin.
+pub(crate) fn end_of(index: &[u32; 416], state: State) -> usize
+    requires { ⌜ state .0 < 128 ⌝ }
+    ensures { λ r. ⌜ r ≡ getD (now (index .entry)) (17 + state .0) 0 ⌝ }
 {
-    index[160 + wide(action)]
+    number(index, 17 + state.0 as usize)
+}
+
+pub(crate) fn mask_of(index: &[u32; 416], action: Action) -> u32
+    ensures { λ r. ⌜ r ≡ getD (now (index .entry)) (160 + action .0) 0 ⌝ }
+{
+    index[160 + wide(action.0)]
 }
 
 // ---- a verdict and its visits in one number
@@ -137,9 +147,9 @@ pub(crate) fn both(first: u32, second: u32) -> u32
 }
 
 // The cell at a byte is given its value, and counts as one visit more.
-pub(crate) fn close(table: &mut [u8], at: usize, w: u32) -> u32
+pub(crate) fn fill_cell(table: &mut [u8], at: usize, w: u32) -> u32
     requires { ⌜ (at < length (now table)) × (w < 1000000000) ⌝ }
-    ensures { λ r. ⌜ Closed w r ⌝ }
+    ensures { λ r. ⌜ CellFilled w r ⌝ }
     ensures { λ _. ⌜ now (table .exit) ≡ set (now (table .entry)) at (valueByte (verdictIn w)) ⌝ }
 {
     if is_true(w) {

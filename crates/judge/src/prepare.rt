@@ -1,6 +1,7 @@
 // Preparing: the numbers that are worked out once for a query.
 use calculus::meeting::meeting;
 use sheet::Action;
+use sheet::State;
 use sheet::Variable;
 use sheet::plan::action_count;
 use sheet::plan::state_count;
@@ -21,31 +22,31 @@ ghost use Rattle.sheet.specs.declared.Check.the-variants.{Passed};
 ghost use Rattle.judge.specs.Deciding.{firstFrom, Prepared};
 ghost use Rattle.judge.specs.Preparing.{AllBefore, Used, Headed, Binders, Firsts, Masks};
 
-fn origin_at(plan: &[u8], i: u16) -> u8
-    ensures { λ r. ⌜ r ≡ origin (now (plan .entry)) i ⌝ }
+fn origin_at(plan: &[u8], i: u16) -> State
+    ensures { λ r. ⌜ r .0 ≡ origin (now (plan .entry)) i ⌝ }
 {
     let t = transition(plan, i);
-    let s = t.from;
-    s.0
+    t.from
 }
 
-fn label_at(plan: &[u8], i: u16) -> usize
-    ensures { λ r. ⌜ (r ≡ label (now (plan .entry)) i) × (r < 256) ⌝ }
+fn label_at(plan: &[u8], i: u16) -> Action
+    ensures { λ r. ⌜ r .0 ≡ label (now (plan .entry)) i ⌝ }
 {
     let t = transition(plan, i);
-    let a = t.action;
-    a.0 as usize
+    t.action
 }
 
 // Where the transitions of a state or of a later one begin; those before at are of earlier states.
-fn first_from(plan: &[u8], state: u8, at: u16) -> u16
-    requires { ⌜ AllBefore (now plan) state at ⌝ }
-    ensures { λ r. ⌜ r ≡ firstFrom (now (plan .entry)) state ⌝ }
+fn first_from(plan: &[u8], state: State, at: u16) -> u16
+    requires { ⌜ AllBefore (now plan) (state .0) at ⌝ }
+    ensures { λ r. ⌜ r ≡ firstFrom (now (plan .entry)) (state .0) ⌝ }
 {
+    let least = state.0;
     let count = transition_count(plan);
     let mut i = at;
     while i < count {
-        if state <= origin_at(plan, i) {
+        let from = origin_at(plan, i);
+        if least <= from.0 {
             return i;
         }
         i += 1;
@@ -77,7 +78,7 @@ fn put_binders(rule: &[u8], index: &mut [u32; 416])
     }
 }
 
-// From place 16 on: where each state's transitions begin.
+// From place 16 on: where each state's transitions begin, and where the last one's end: first_from finds that by the number S, which is of no state.
 fn put_firsts(plan: &[u8], index: &mut [u32; 416])
     requires { ⌜ (stateCount (now plan) ≤ 128) × (length (now index) ≡ 416) ⌝ }
     ensures { λ _. ⌜ Firsts (now (plan .entry)) (now (index .entry)) (now (index .exit)) ⌝ }
@@ -86,7 +87,7 @@ fn put_firsts(plan: &[u8], index: &mut [u32; 416])
     let mut at: u16 = 0;
     let mut state: u8 = 0;
     while state <= states {
-        at = first_from(plan, state, at);
+        at = first_from(plan, State(state), at);
         index[16 + state as usize] = at as u32;
         state += 1;
     }
@@ -100,7 +101,9 @@ fn used_actions(plan: &[u8]) -> [u8; 256]
     let mut used = [0; 256];
     let mut i: u16 = 0;
     while i < count {
-        used[label_at(plan, i)] = 1;
+        let action = label_at(plan, i);
+        let at = action.0 as usize;
+        used[at] = 1;
         i += 1;
     }
     used
@@ -124,7 +127,7 @@ fn put_masks(plan: &[u8], actions: &[u8], index: &mut [u32; 416])
     }
 }
 
-// The numbers of an accepted sheet: 0 where nothing is to be known.
+// The index of an accepted sheet; places that no step fills stay 0.
 pub(crate) fn prepare(sheet: &[u8]) -> [u32; 416]
     requires { ⌜ sheetCheck (now sheet) ≡ Passed ⌝ }
     ensures { λ index. ⌜ Prepared (now (sheet .entry)) index ⌝ }

@@ -31,7 +31,7 @@ fn larger(a: u8, b: u8) -> u8
     a
 }
 
-// Whether the first size bytes are 0, 1 or 2. The largest is sought, with no way out before the end, so that many bytes are taken at a step.
+// Whether the first size bytes are 0, 1 or 2: whether the largest of them is at most 2.
 fn bytes_right(table: &[u8], size: usize) -> bool
     requires { ⌜ size ≤ length (now table) ⌝ }
     ensures { λ b. ⌜ b ≡ bytesRight size (now (table .entry)) ⌝ }
@@ -80,6 +80,7 @@ fn judge(sheet: &[u8], state: State, table: &mut [u8]) -> Queried
     }
 }
 
+// "A query takes a sheet, a state s and a table. It gives the solution at (0, 0, s)", fills the needed cells that were empty and counts them.
 pub fn query(sheet: &[u8], state: State, table: &mut [u8]) -> Queried
     ensures { λ r. ⌜ r ≡ queriedOf (now (sheet .entry)) (state .0) (now (table .entry)) ⌝ }
     ensures { λ r. ⌜ reportedQuery r ≡ queryReportOf (now (sheet .entry)) (state .0) (now (table .entry)) ⌝ }

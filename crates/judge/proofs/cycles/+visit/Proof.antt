@@ -8,15 +8,16 @@ use lib.ListN.{getD, set}
 use borrow.Author.Tests.{not-true, not-false}
 use Rattle.judge.specs.Deciding.{firstFrom}
 use Rattle.judge.specs.Searching.{unseen, Finished}
-use Rattle.judge.proofs.Outgoing.{first-bound}
+use Rattle.judge.proofs.Outgoing.{first-bound, end-place}
 use Rattle.judge.proofs.SearchSteps.{Walked, met-open, met-done, walk-start, fewer, walk-on, walk-next, walk-end, found}
 use borrow.Fn.Kinds.{In}
 use borrow.Fn.PlainCycle.{Measures, is, falls, and}
 use Rattle.judge.proofs.cycles.visit.Reads as visit
 use Rattle.judge.proofs.cycles.visit.Kinds as visit-kinds
 use Rattle.judge.proofs.cycles.+visit.Lts-visit as visit-lts
-use Rattle.judge.proofs.cycles.first_of.Reads as first-of-reads
-use Rattle.judge.proofs.cycles.target_of.Reads as target-of-reads
+use Rattle.judge.proofs.fields.end_of.Reads as end-of-reads
+use Rattle.judge.proofs.fields.first_of.Reads as first-of-reads
+use Rattle.judge.proofs.cycles.plan_target.Reads as plan-target-reads
 use Rattle.judge.proofs.cycles.+visit.{statement}
 use Rattle.judge.proofs.cycles.+visit.Tie.{close}
 
@@ -31,70 +32,70 @@ visit-below t = and 3 visit-kinds.ps (falls 3 visit-kinds.ps _<_ μ-visit t) vis
 
 -- what the functions called ask and tell
 abbrev claims : ℕ → visit-lts.Claims
-claims t = (first-of-reads.Asked, first-of-reads.Learnt, target-of-reads.Asked, target-of-reads.Learnt, visit-below t, visit.Post)
+claims t = (end-of-reads.Asked, end-of-reads.Learnt, first-of-reads.Asked, first-of-reads.Learnt, plan-target-reads.Asked, plan-target-reads.Learnt, visit-below t, visit.Post)
 
 abbrev Inv-loop : visit-lts.InvT-loop
-Inv-loop plan index colours₀ state colour end i₀ colours i = (i₀ ≤ i) × Walked plan colours₀ colours i₀ i
+Inv-loop plan index colours₀ at colour end i₀ colours i = (i₀ ≤ i) × Walked plan colours₀ colours i₀ i
 
 abbrev μ-loop : visit-lts.MeasureT-loop
-μ-loop plan index colours₀ state colour end i₀ colours i = end - i
+μ-loop plan index colours₀ at colour end i₀ colours i = end - i
 
 module _ (t : ℕ) where
-  element-copy-out-colour : visit-lts.Need-element-copy-out-colour (claims t) (visit-at t) visit.Post Inv-loop μ-loop
-  element-copy-out-colour c = omega (arith, c .before .pre .1 .state-below, c .before .pre .1 .indexed .kept .few-states)
-
-  returns : visit-lts.Need-returns (claims t) (visit-at t) visit.Post Inv-loop μ-loop
-  returns c = met-open _ _ _ _ (c .before .before .before .pre .1) (c .if1 .taken)
-
-  returns-2 : visit-lts.Need-returns-2 (claims t) (visit-at t) visit.Post Inv-loop μ-loop
-  returns-2 c = met-done _ _ _ _ (c .before .before .before .before .pre .1) (c .if2 .taken)
-
   -- a state is below 128
-  small : (c : visit-lts.Start (claims t) (visit-at t) visit.Post Inv-loop μ-loop) → c .args .state < 128
+  small : (c : visit-lts.Start (claims t) (visit-at t) visit.Post Inv-loop μ-loop) → c .args .state .0 < 128
   small c = omega (arith, c .pre .1 .state-below, c .pre .1 .indexed .kept .few-states)
 
-  element-write-colours : visit-lts.Need-element-write-colours (claims t) (visit-at t) visit.Post Inv-loop μ-loop
-  element-write-colours c = small (c .before .before .before .before)
+  cast-at : visit-lts.Need-cast-at (claims t) (visit-at t) visit.Post Inv-loop μ-loop
+  cast-at c = omega arith
 
-  add-first-of : visit-lts.Need-add-first-of (claims t) (visit-at t) visit.Post Inv-loop μ-loop
-  add-first-of c = omega (arith, small (c .before .before .before .before))
+  element-copy-out-colour : visit-lts.Need-element-copy-out-colour (claims t) (visit-at t) visit.Post Inv-loop μ-loop
+  element-copy-out-colour c = small (c .before .before)
+
+  returns : visit-lts.Need-returns (claims t) (visit-at t) visit.Post Inv-loop μ-loop
+  returns c = met-open _ _ _ _ (c .before .before .before .before .pre .1) (c .if1 .taken)
+
+  returns-2 : visit-lts.Need-returns-2 (claims t) (visit-at t) visit.Post Inv-loop μ-loop
+  returns-2 c = met-done _ _ _ _ (c .before .before .before .before .before .pre .1) (c .if2 .taken)
+
+  element-write-colours : visit-lts.Need-element-write-colours (claims t) (visit-at t) visit.Post Inv-loop μ-loop
+  element-write-colours c = small (c .before .before .before .before .before)
+
+  end-of-requires : visit-lts.Need-end-of-requires (claims t) (visit-at t) visit.Post Inv-loop μ-loop
+  end-of-requires c κs = small (c .before .before .before .before .before)
 
   first-of-requires : visit-lts.Need-first-of-requires (claims t) (visit-at t) visit.Post Inv-loop μ-loop
-  first-of-requires c κs = omega (arith, small (c .before .before .before .before))
-
-  first-of-requires-2 : visit-lts.Need-first-of-requires-2 (claims t) (visit-at t) visit.Post Inv-loop μ-loop
-  first-of-requires-2 c κs = omega (arith, small (c .before .before .before .before .before))
+  first-of-requires c κs = small (c .before .before .before .before .before .before)
 
   loop-holds : visit-lts.Need-loop-holds (claims t) (visit-at t) visit.Post Inv-loop μ-loop
-  loop-holds c = (omega arith, walk-start _ _ _ _ (c .before .before .before .before .before .before .pre .1) (c .first-of2 .result))
+  loop-holds c = (omega arith, walk-start _ _ _ _ (c .before .before .before .before .before .before .before .pre .1) (c .first-of .result))
 
   -- where the transitions begin and end, and what the loop knows of the colours
   module _ (c : visit-lts.At-loop (claims t) (visit-at t) visit.Post Inv-loop μ-loop) where
     abbrev start : visit-lts.Start (claims t) (visit-at t) visit.Post Inv-loop μ-loop
-    start = c .before .before .before .before .before .before .before
+    start = c .before .before .before .before .before .before .before .before
 
-    ends : c .before .before .first-of .result ≡ firstFrom (now (start .args .plan)) (start .args .state + 1)
-    ends = c .before .before .first-of .ensures ∙ start .pre .1 .indexed .firsts-are (start .args .state + 1) (omega (arith, start .pre .1 .state-below))
+    ends : c .before .before .end-of .result ≡ firstFrom (now (start .args .plan)) (start .args .state .0 + 1)
+    ends = c .before .before .end-of .ensures ∙ end-place _ (now (start .args .index)) (start .pre .1 .indexed .firsts-are) _ (start .pre .1 .state-below)
 
-    begins : c .before .first-of2 .result ≡ firstFrom (now (start .args .plan)) (start .args .state)
-    begins = c .before .first-of2 .ensures ∙ start .pre .1 .indexed .firsts-are (start .args .state) (omega (arith, start .pre .1 .state-below))
+    begins : c .before .first-of .result ≡ firstFrom (now (start .args .plan)) (start .args .state .0)
+    begins = c .before .first-of .ensures ∙ start .pre .1 .indexed .firsts-are (start .args .state .0) (omega (arith, start .pre .1 .state-below))
 
-    walked : Walked (now (start .args .plan)) (set (now (start .args .colours)) (start .args .state) 1) (c .loop .colours) (firstFrom (now (start .args .plan)) (start .args .state)) (c .loop .i)
-    walked = subst (λ (k : ℕ). Walked (now (start .args .plan)) (set (now (start .args .colours)) (start .args .state) 1) (c .loop .colours) k (c .loop .i)) begins (c .loop .inv .1)
+    walked : Walked (now (start .args .plan)) (set (now (start .args .colours)) (start .args .state .0) 1) (c .loop .colours) (firstFrom (now (start .args .plan)) (start .args .state .0)) (c .loop .i)
+    walked = subst (λ (k : ℕ). Walked (now (start .args .plan)) (set (now (start .args .colours)) (start .args .state .0) 1) (c .loop .colours) k (c .loop .i)) begins (c .loop .inv .1)
 
-    unseen-yet : getD (now (start .args .colours)) (start .args .state) 0 ≡ 0
+    unseen-yet : getD (now (start .args .colours)) (start .args .state .0) 0 ≡ 0
     unseen-yet = omega (arith, c .before .before .before .if2 .left, c .before .before .before .before .if1 .left)
 
-  target-of-requires : visit-lts.Need-target-of-requires (claims t) (visit-at t) visit.Post Inv-loop μ-loop
-  target-of-requires c κs =
-      omega (arith, c .loop-test .taken, ends (c .before), first-bound _ (start (c .before) .pre .1 .indexed .kept) (start (c .before) .args .state + 1), start (c .before) .pre .1 .indexed .kept .exact)
+  plan-target-requires : visit-lts.Need-plan-target-requires (claims t) (visit-at t) visit.Post Inv-loop μ-loop
+  plan-target-requires c κs =
+      omega (arith, c .loop-test .taken, ends (c .before), first-bound _ (start (c .before) .pre .1 .indexed .kept) (start (c .before) .args .state .0 + 1), start (c .before) .pre .1 .indexed .kept .exact)
 
   visit-requires : visit-lts.Need-visit-requires (claims t) (visit-at t) visit.Post Inv-loop μ-loop
   visit-requires c κs =
       let l = c .before .before .before in
       let b = start l in (
         omega (arith, b .pre .0, l .loop .inv .1 .none-forgotten, fewer _ _ _ _ (b .pre .1) (unseen-yet l)),
-        rw (c .before .target-of .ensures)
+        rw (c .before .plan-target .ensures)
             (walk-on _ _ _ _ (b .pre .1) (l .loop .colours) (l .loop .i) (walked l) (omega (arith, begins l, l .loop .inv .0)) (omega (arith, ends l, c .before .before .loop-test .taken))),
       )
 
@@ -102,7 +103,7 @@ module _ (t : ℕ) where
   returns-3 c = found _ _ _ _ _ _ _ _ (c .before .visit .ensures) (not-true _ (c .if3 .taken))
 
   add-i : visit-lts.Need-add-i (claims t) (visit-at t) visit.Post Inv-loop μ-loop
-  add-i c = omega (arith, c .before .before .before .before .loop-test .taken, c .before .before .before .before .before .before .before .first-of .ok)
+  add-i c = omega (arith, c .before .before .before .before .loop-test .taken, c .before .before .before .before .before .before .before .end-of .ok)
 
   loop-less : visit-lts.Need-loop-less (claims t) (visit-at t) visit.Post Inv-loop μ-loop
   loop-less c = omega (arith, c .before .before .before .before .loop-test .taken)
@@ -112,12 +113,12 @@ module _ (t : ℕ) where
       let l = c .before .before .before .before .before in (
         omega (arith, l .loop .inv .0),
         walk-next _ _ _ _ _ _ (l .loop .inv .1)
-            (subst (λ (k : ℕ). Finished (now (start l .args .plan)) (l .loop .colours) (c .before .visit .last .1 .1 .0) k) (c .before .before .before .target-of .ensures)
+            (subst (λ (k : ℕ). Finished (now (start l .args .plan)) (l .loop .colours) (c .before .visit .last .1 .1 .0) k) (c .before .before .before .plan-target .ensures)
             (c .before .visit .ensures .finished (not-false _ (c .if3 .left)))),
       )
 
   element-write-colours-2 : visit-lts.Need-element-write-colours-2 (claims t) (visit-at t) visit.Post Inv-loop μ-loop
-  element-write-colours-2 c = small (c .before .before .before .before .before .before .before .before)
+  element-write-colours-2 c = small (c .before .before .before .before .before .before .before .before .before)
 
   returns-4 : visit-lts.Need-returns-4 (claims t) (visit-at t) visit.Post Inv-loop μ-loop
   returns-4 c =
@@ -128,15 +129,15 @@ pub +visit-spec : {M : Type 1} → statement M
 +visit-spec =
     close μ-visit
     (λ t. visit-lts.spec (claims t) (visit-at t) visit.Post Inv-loop μ-loop
+    (cast-at t)
     (element-copy-out-colour t)
     (returns t)
     (returns-2 t)
     (element-write-colours t)
-    (add-first-of t)
+    (end-of-requires t)
     (first-of-requires t)
-    (first-of-requires-2 t)
     (loop-holds t)
-    (target-of-requires t)
+    (plan-target-requires t)
     (visit-requires t)
     (returns-3 t)
     (add-i t)

@@ -14,8 +14,8 @@ Inv-loop plan index colours₀ states state₀ colours state = (state ≤ states
 abbrev μ-loop : tie.MeasureT-loop
 μ-loop plan index colours₀ states state₀ colours state = states - state
 
-states-of-requires : tie.Need-states-of-requires Inv-loop μ-loop
-states-of-requires c κs = tt
+state-count-requires : tie.Need-state-count-requires Inv-loop μ-loop
+state-count-requires c κs = tt
 
 loop-holds : tie.Need-loop-holds Inv-loop μ-loop
 loop-holds c = (omega arith, sweep-start (now (c .before .before .args .plan)))
@@ -23,13 +23,13 @@ loop-holds c = (omega arith, sweep-start (now (c .before .before .args .plan)))
 visit-requires : tie.Need-visit-requires Inv-loop μ-loop
 visit-requires c κs =
     let l = c .before .before in
-    sweep-on _ _ _ _ (l .loop .inv .1) (l .before .before .before .pre) (omega (arith, c .before .loop-test .taken, l .before .states-of .ensures))
+    sweep-on _ _ _ _ (l .loop .inv .1) (l .before .before .before .pre) (omega (arith, c .before .loop-test .taken, l .before .state-count .ensures))
 
 returns : tie.Need-returns Inv-loop μ-loop
 returns c = sym (c .before .visit .ensures .looped (not-true _ (c .if1 .taken)))
 
 add-state : tie.Need-add-state Inv-loop μ-loop
-add-state c = omega (arith, c .before .before .before .loop-test .taken, c .before .before .before .before .before .states-of .ok)
+add-state c = omega (arith, c .before .before .before .loop-test .taken, c .before .before .before .before .before .state-count .ok)
 
 loop-less : tie.Need-loop-less Inv-loop μ-loop
 loop-less c = omega (arith, c .before .before .before .loop-test .taken)
@@ -42,7 +42,7 @@ loop-again c =
 returns-2 : tie.Need-returns-2 Inv-loop μ-loop
 returns-2 c =
     let l = c .before in
-    sweep-end _ _ _ _ (l .loop .inv .1) (l .before .before .before .pre) (omega (arith, c .loop-test .left, l .before .states-of .ensures))
+    sweep-end _ _ _ _ (l .loop .inv .1) (l .before .before .before .pre) (omega (arith, c .loop-test .left, l .before .state-count .ensures))
 
 pub is-loopless-spec : {M : Type 1} → statement M
 is-loopless-spec =
@@ -50,7 +50,7 @@ is-loopless-spec =
     (tie.spec
     Inv-loop
     μ-loop
-    states-of-requires
+    state-count-requires
     loop-holds
     visit-requires
     returns

@@ -10,6 +10,7 @@ use Rattle.sheet.specs.Contents.{planBody, ruleBody}
 use Rattle.judge.specs.Cells.{cell}
 use Rattle.judge.specs.Deciding.{Following}
 use Rattle.judge.proofs.Ranks.{rank}
+use Rattle.judge.proofs.Outgoing.{end-place}
 use Rattle.judge.proofs.FollowWalk.{walkRank, Walked, start, transition-among, met, call-child, turn-decided, turn-on, turn-past, sum-small, finish}
 use Rattle.judge.proofs.DecideRows.{placed, few-states, node-at, index-small, cell-inside, call-follow, binder-asked, binder-found, binder-at, call-first, call-second, call-outer, call-body, binder-x}
 use Rattle.judge.proofs.DecideAnswers.{answer-known, answer-false, answer-true, answer-unknown, answer-modal, answer-outer, answer-constant, answer-body, answer-first, answer-second}
@@ -36,7 +37,8 @@ use Rattle.judge.proofs.deciding.number_of.Reads as number-of-reads
 use Rattle.judge.proofs.deciding.opening.Reads as opening-reads
 use Rattle.judge.proofs.fields.binder_of.Reads as binder-of-reads
 use Rattle.judge.proofs.fields.both.Reads as both-reads
-use Rattle.judge.proofs.fields.close.Reads as close-reads
+use Rattle.judge.proofs.fields.fill_cell.Reads as fill-cell-reads
+use Rattle.judge.proofs.fields.end_of.Reads as end-of-reads
 use Rattle.judge.proofs.fields.first_of.Reads as first-of-reads
 use Rattle.judge.proofs.fields.kind_of.Reads as kind-of-reads
 use Rattle.judge.proofs.fields.known_verdict.Reads as known-verdict-reads
@@ -69,7 +71,7 @@ follow-below t = and 3 follow-kinds.ps (falls 3 follow-kinds.ps _<_ μ-follow t)
 
 -- what the functions that decide calls ask and tell
 abbrev decide-claims : ℕ → decide-lts.Claims
-decide-claims t = (place-reads.Asked, place-reads.Learnt, known-verdict-reads.Asked, known-verdict-reads.Learnt, kind-of-reads.Asked, kind-of-reads.Learnt, close-reads.Asked, close-reads.Learnt, follow-below t, follow.Post, x-of-reads.Asked, x-of-reads.Learnt, binder-of-reads.Asked, binder-of-reads.Learnt, is-outer-reads.Asked, is-outer-reads.Learnt, decide-below t, decide.Post, number-of-reads.Asked, number-of-reads.Learnt, decides-reads.Asked, decides-reads.Learnt, y-of-reads.Asked, y-of-reads.Learnt, both-reads.Asked, both-reads.Learnt, opening-reads.Asked, opening-reads.Learnt)
+decide-claims t = (place-reads.Asked, place-reads.Learnt, known-verdict-reads.Asked, known-verdict-reads.Learnt, kind-of-reads.Asked, kind-of-reads.Learnt, fill-cell-reads.Asked, fill-cell-reads.Learnt, follow-below t, follow.Post, x-of-reads.Asked, x-of-reads.Learnt, binder-of-reads.Asked, binder-of-reads.Learnt, is-outer-reads.Asked, is-outer-reads.Learnt, decide-below t, decide.Post, number-of-reads.Asked, number-of-reads.Learnt, decides-reads.Asked, decides-reads.Learnt, y-of-reads.Asked, y-of-reads.Learnt, both-reads.Asked, both-reads.Learnt, opening-reads.Asked, opening-reads.Learnt)
 
 module _ (t : ℕ) where
   decide-place-requires : decide-lts.Need-place-requires (decide-claims t) (decide-at t) decide.Post
@@ -87,23 +89,23 @@ module _ (t : ℕ) where
   decide-kind-of-requires : decide-lts.Need-kind-of-requires (decide-claims t) (decide-at t) decide.Post
   decide-kind-of-requires c κs = node-at (now (c .before .before .before .before .before .args .sheet)) (now (c .before .before .before .before .before .args .index)) (now (c .before .before .before .before .before .args .table)) (c .before .before .before .before .before .args .mark) (c .before .before .before .before .before .args .node .0) (c .before .before .before .before .before .args .state .0) (c .before .before .before .before .before .pre .1)
 
-  decide-close-requires : decide-lts.Need-close-requires (decide-claims t) (decide-at t) decide.Post
-  decide-close-requires c κs = (cell-inside (now (c .before .before .before .before .before .before .before .before .args .sheet)) (now (c .before .before .before .before .before .before .before .before .args .index)) (now (c .before .before .before .before .before .before .before .before .args .table)) (c .before .before .before .before .before .before .before .before .args .mark) (c .before .before .before .before .before .before .before .before .args .node .0) (c .before .before .before .before .before .before .before .before .args .state .0) (c .before .before .before .before .before .before .before .before .pre .1) (c .before .before .before .before .before .place .result) (placed (now (c .before .before .before .before .before .before .before .before .args .sheet)) (now (c .before .before .before .before .before .before .before .before .args .index)) (c .before .before .before .before .before .before .before .before .pre .1 .prepared) (c .before .before .before .before .before .before .before .before .args .mark) (c .before .before .before .before .before .before .before .before .args .node .0) (c .before .before .before .before .before .before .before .before .args .state .0) (c .before .before .before .before .before .place .result) (c .before .before .before .before .before .place .ensures)), omega arith)
+  decide-fill-cell-requires : decide-lts.Need-fill-cell-requires (decide-claims t) (decide-at t) decide.Post
+  decide-fill-cell-requires c κs = (cell-inside (now (c .before .before .before .before .before .before .before .before .args .sheet)) (now (c .before .before .before .before .before .before .before .before .args .index)) (now (c .before .before .before .before .before .before .before .before .args .table)) (c .before .before .before .before .before .before .before .before .args .mark) (c .before .before .before .before .before .before .before .before .args .node .0) (c .before .before .before .before .before .before .before .before .args .state .0) (c .before .before .before .before .before .before .before .before .pre .1) (c .before .before .before .before .before .place .result) (placed (now (c .before .before .before .before .before .before .before .before .args .sheet)) (now (c .before .before .before .before .before .before .before .before .args .index)) (c .before .before .before .before .before .before .before .before .pre .1 .prepared) (c .before .before .before .before .before .before .before .before .args .mark) (c .before .before .before .before .before .before .before .before .args .node .0) (c .before .before .before .before .before .before .before .before .args .state .0) (c .before .before .before .before .before .place .result) (c .before .before .before .before .before .place .ensures)), omega arith)
 
-  decide-close-requires-2 : decide-lts.Need-close-requires-2 (decide-claims t) (decide-at t) decide.Post
-  decide-close-requires-2 c κs = (cell-inside (now (c .before .before .before .before .before .before .before .before .args .sheet)) (now (c .before .before .before .before .before .before .before .before .args .index)) (now (c .before .before .before .before .before .before .before .before .args .table)) (c .before .before .before .before .before .before .before .before .args .mark) (c .before .before .before .before .before .before .before .before .args .node .0) (c .before .before .before .before .before .before .before .before .args .state .0) (c .before .before .before .before .before .before .before .before .pre .1) (c .before .before .before .before .before .place .result) (placed (now (c .before .before .before .before .before .before .before .before .args .sheet)) (now (c .before .before .before .before .before .before .before .before .args .index)) (c .before .before .before .before .before .before .before .before .pre .1 .prepared) (c .before .before .before .before .before .before .before .before .args .mark) (c .before .before .before .before .before .before .before .before .args .node .0) (c .before .before .before .before .before .before .before .before .args .state .0) (c .before .before .before .before .before .place .result) (c .before .before .before .before .before .place .ensures)), omega arith)
+  decide-fill-cell-requires-2 : decide-lts.Need-fill-cell-requires-2 (decide-claims t) (decide-at t) decide.Post
+  decide-fill-cell-requires-2 c κs = (cell-inside (now (c .before .before .before .before .before .before .before .before .args .sheet)) (now (c .before .before .before .before .before .before .before .before .args .index)) (now (c .before .before .before .before .before .before .before .before .args .table)) (c .before .before .before .before .before .before .before .before .args .mark) (c .before .before .before .before .before .before .before .before .args .node .0) (c .before .before .before .before .before .before .before .before .args .state .0) (c .before .before .before .before .before .before .before .before .pre .1) (c .before .before .before .before .before .place .result) (placed (now (c .before .before .before .before .before .before .before .before .args .sheet)) (now (c .before .before .before .before .before .before .before .before .args .index)) (c .before .before .before .before .before .before .before .before .pre .1 .prepared) (c .before .before .before .before .before .before .before .before .args .mark) (c .before .before .before .before .before .before .before .before .args .node .0) (c .before .before .before .before .before .before .before .before .args .state .0) (c .before .before .before .before .before .place .result) (c .before .before .before .before .before .place .ensures)), omega arith)
 
   decide-follow-requires : decide-lts.Need-follow-requires (decide-claims t) (decide-at t) decide.Post
   decide-follow-requires c κs = let w = call-follow (now (c .before .before .before .before .before .before .before .before .args .sheet)) (now (c .before .before .before .before .before .before .before .before .args .index)) (now (c .before .before .before .before .before .before .before .before .args .table)) (c .before .before .before .before .before .before .before .before .args .mark) (c .before .before .before .before .before .before .before .before .args .node .0) (c .before .before .before .before .before .before .before .before .args .state .0) (c .before .before .before .before .before .before .before .before .pre .1) (omega arith) (omega arith) in (omega (arith, w .0, c .before .before .before .before .before .before .before .before .pre .0), (w .1, sym (eq-eqb (nodeKind (ruleBody (now (c .before .before .before .before .before .before .before .before .args .sheet))) (c .before .before .before .before .before .before .before .before .args .node .0)) 4 (omega arith))))
 
-  decide-close-requires-3 : decide-lts.Need-close-requires-3 (decide-claims t) (decide-at t) decide.Post
-  decide-close-requires-3 c κs = (omega (arith, cell-inside (now (c .before .before .before .before .before .before .before .before .before .before .before .before .args .sheet)) (now (c .before .before .before .before .before .before .before .before .before .before .before .before .args .index)) (now (c .before .before .before .before .before .before .before .before .before .before .before .before .args .table)) (c .before .before .before .before .before .before .before .before .before .before .before .before .args .mark) (c .before .before .before .before .before .before .before .before .before .before .before .before .args .node .0) (c .before .before .before .before .before .before .before .before .before .before .before .before .args .state .0) (c .before .before .before .before .before .before .before .before .before .before .before .before .pre .1) (c .before .before .before .before .before .before .before .before .before .place .result) (placed (now (c .before .before .before .before .before .before .before .before .before .before .before .before .args .sheet)) (now (c .before .before .before .before .before .before .before .before .before .before .before .before .args .index)) (c .before .before .before .before .before .before .before .before .before .before .before .before .pre .1 .prepared) (c .before .before .before .before .before .before .before .before .before .before .before .before .args .mark) (c .before .before .before .before .before .before .before .before .before .before .before .before .args .node .0) (c .before .before .before .before .before .before .before .before .before .before .before .before .args .state .0) (c .before .before .before .before .before .before .before .before .before .place .result) (c .before .before .before .before .before .before .before .before .before .place .ensures)), c .before .before .before .follow .kept .1 .1 .0), c .before .before .before .follow .ensures .small)
+  decide-fill-cell-requires-3 : decide-lts.Need-fill-cell-requires-3 (decide-claims t) (decide-at t) decide.Post
+  decide-fill-cell-requires-3 c κs = (omega (arith, cell-inside (now (c .before .before .before .before .before .before .before .before .before .before .before .before .args .sheet)) (now (c .before .before .before .before .before .before .before .before .before .before .before .before .args .index)) (now (c .before .before .before .before .before .before .before .before .before .before .before .before .args .table)) (c .before .before .before .before .before .before .before .before .before .before .before .before .args .mark) (c .before .before .before .before .before .before .before .before .before .before .before .before .args .node .0) (c .before .before .before .before .before .before .before .before .before .before .before .before .args .state .0) (c .before .before .before .before .before .before .before .before .before .before .before .before .pre .1) (c .before .before .before .before .before .before .before .before .before .place .result) (placed (now (c .before .before .before .before .before .before .before .before .before .before .before .before .args .sheet)) (now (c .before .before .before .before .before .before .before .before .before .before .before .before .args .index)) (c .before .before .before .before .before .before .before .before .before .before .before .before .pre .1 .prepared) (c .before .before .before .before .before .before .before .before .before .before .before .before .args .mark) (c .before .before .before .before .before .before .before .before .before .before .before .before .args .node .0) (c .before .before .before .before .before .before .before .before .before .before .before .before .args .state .0) (c .before .before .before .before .before .before .before .before .before .place .result) (c .before .before .before .before .before .before .before .before .before .place .ensures)), c .before .before .before .follow .kept .1 .1 .0), c .before .before .before .follow .ensures .small)
 
   decide-follow-requires-2 : decide-lts.Need-follow-requires-2 (decide-claims t) (decide-at t) decide.Post
   decide-follow-requires-2 c κs = let w = call-follow (now (c .before .before .before .before .before .before .before .before .args .sheet)) (now (c .before .before .before .before .before .before .before .before .args .index)) (now (c .before .before .before .before .before .before .before .before .args .table)) (c .before .before .before .before .before .before .before .before .args .mark) (c .before .before .before .before .before .before .before .before .args .node .0) (c .before .before .before .before .before .before .before .before .args .state .0) (c .before .before .before .before .before .before .before .before .pre .1) (omega arith) (omega arith) in (omega (arith, w .0, c .before .before .before .before .before .before .before .before .pre .0), (w .1, sym (ne-eqb (nodeKind (ruleBody (now (c .before .before .before .before .before .before .before .before .args .sheet))) (c .before .before .before .before .before .before .before .before .args .node .0)) 4 (omega arith))))
 
-  decide-close-requires-4 : decide-lts.Need-close-requires-4 (decide-claims t) (decide-at t) decide.Post
-  decide-close-requires-4 c κs = (omega (arith, cell-inside (now (c .before .before .before .before .before .before .before .before .before .before .before .before .args .sheet)) (now (c .before .before .before .before .before .before .before .before .before .before .before .before .args .index)) (now (c .before .before .before .before .before .before .before .before .before .before .before .before .args .table)) (c .before .before .before .before .before .before .before .before .before .before .before .before .args .mark) (c .before .before .before .before .before .before .before .before .before .before .before .before .args .node .0) (c .before .before .before .before .before .before .before .before .before .before .before .before .args .state .0) (c .before .before .before .before .before .before .before .before .before .before .before .before .pre .1) (c .before .before .before .before .before .before .before .before .before .place .result) (placed (now (c .before .before .before .before .before .before .before .before .before .before .before .before .args .sheet)) (now (c .before .before .before .before .before .before .before .before .before .before .before .before .args .index)) (c .before .before .before .before .before .before .before .before .before .before .before .before .pre .1 .prepared) (c .before .before .before .before .before .before .before .before .before .before .before .before .args .mark) (c .before .before .before .before .before .before .before .before .before .before .before .before .args .node .0) (c .before .before .before .before .before .before .before .before .before .before .before .before .args .state .0) (c .before .before .before .before .before .before .before .before .before .place .result) (c .before .before .before .before .before .before .before .before .before .place .ensures)), c .before .before .before .follow2 .kept .1 .1 .0), c .before .before .before .follow2 .ensures .small)
+  decide-fill-cell-requires-4 : decide-lts.Need-fill-cell-requires-4 (decide-claims t) (decide-at t) decide.Post
+  decide-fill-cell-requires-4 c κs = (omega (arith, cell-inside (now (c .before .before .before .before .before .before .before .before .before .before .before .before .args .sheet)) (now (c .before .before .before .before .before .before .before .before .before .before .before .before .args .index)) (now (c .before .before .before .before .before .before .before .before .before .before .before .before .args .table)) (c .before .before .before .before .before .before .before .before .before .before .before .before .args .mark) (c .before .before .before .before .before .before .before .before .before .before .before .before .args .node .0) (c .before .before .before .before .before .before .before .before .before .before .before .before .args .state .0) (c .before .before .before .before .before .before .before .before .before .before .before .before .pre .1) (c .before .before .before .before .before .before .before .before .before .place .result) (placed (now (c .before .before .before .before .before .before .before .before .before .before .before .before .args .sheet)) (now (c .before .before .before .before .before .before .before .before .before .before .before .before .args .index)) (c .before .before .before .before .before .before .before .before .before .before .before .before .pre .1 .prepared) (c .before .before .before .before .before .before .before .before .before .before .before .before .args .mark) (c .before .before .before .before .before .before .before .before .before .before .before .before .args .node .0) (c .before .before .before .before .before .before .before .before .before .before .before .before .args .state .0) (c .before .before .before .before .before .before .before .before .before .place .result) (c .before .before .before .before .before .before .before .before .before .place .ensures)), c .before .before .before .follow2 .kept .1 .1 .0), c .before .before .before .follow2 .ensures .small)
 
   decide-x-of-requires : decide-lts.Need-x-of-requires (decide-claims t) (decide-at t) decide.Post
   decide-x-of-requires c κs = node-at (now (c .before .before .before .before .before .before .before .args .sheet)) (now (c .before .before .before .before .before .before .before .args .index)) (now (c .before .before .before .before .before .before .before .args .table)) (c .before .before .before .before .before .before .before .args .mark) (c .before .before .before .before .before .before .before .args .node .0) (c .before .before .before .before .before .before .before .args .state .0) (c .before .before .before .before .before .before .before .pre .1)
@@ -117,14 +119,14 @@ module _ (t : ℕ) where
   decide-decide-requires : decide-lts.Need-decide-requires (decide-claims t) (decide-at t) decide.Post
   decide-decide-requires c κs = let w = call-outer (now (c .before .before .before .before .before .before .before .before .before .before .before .before .args .sheet)) (now (c .before .before .before .before .before .before .before .before .before .before .before .before .args .index)) (now (c .before .before .before .before .before .before .before .before .before .before .before .before .args .table)) (c .before .before .before .before .before .before .before .before .before .before .before .before .args .mark) (c .before .before .before .before .before .before .before .before .before .before .before .before .args .node .0) (c .before .before .before .before .before .before .before .before .before .before .before .before .args .state .0) (c .before .before .before .before .before .before .before .before .before .before .before .before .pre .1) (now (c .before .before .before .before .before .before .before .before .before .before .before .before .args .table)) (c .before .before .before .before .before .before .before .before .before .before .before .before .pre .1 .room) (c .before .before .before .before .x-of .result) (c .before .before .before .binder-of .result .0) (c .before .before .before .before .x-of .ensures) (binder-found (now (c .before .before .before .before .before .before .before .before .before .before .before .before .args .sheet)) (now (c .before .before .before .before .before .before .before .before .before .before .before .before .args .index)) (now (c .before .before .before .before .before .before .before .before .before .before .before .before .args .table)) (c .before .before .before .before .before .before .before .before .before .before .before .before .args .mark) (c .before .before .before .before .before .before .before .before .before .before .before .before .args .node .0) (c .before .before .before .before .before .before .before .before .before .before .before .before .args .state .0) (c .before .before .before .before .before .before .before .before .before .before .before .before .pre .1) (omega arith) (c .before .before .before .before .x-of .result) (c .before .before .before .binder-of .result .0) (c .before .before .before .before .x-of .ensures) (c .before .before .before .binder-of .ensures)) (omega arith) (sym (c .before .before .is-outer .ensures) ∙ c .before .if2 .taken) in (omega (arith, w .0, c .before .before .before .before .before .before .before .before .before .before .before .before .pre .0), w .1)
 
-  decide-close-requires-5 : decide-lts.Need-close-requires-5 (decide-claims t) (decide-at t) decide.Post
-  decide-close-requires-5 c κs = (omega (arith, cell-inside (now (c .before .before .before .before .before .before .before .before .before .before .before .before .before .before .before .before .args .sheet)) (now (c .before .before .before .before .before .before .before .before .before .before .before .before .before .before .before .before .args .index)) (now (c .before .before .before .before .before .before .before .before .before .before .before .before .before .before .before .before .args .table)) (c .before .before .before .before .before .before .before .before .before .before .before .before .before .before .before .before .args .mark) (c .before .before .before .before .before .before .before .before .before .before .before .before .before .before .before .before .args .node .0) (c .before .before .before .before .before .before .before .before .before .before .before .before .before .before .before .before .args .state .0) (c .before .before .before .before .before .before .before .before .before .before .before .before .before .before .before .before .pre .1) (c .before .before .before .before .before .before .before .before .before .before .before .before .before .place .result) (placed (now (c .before .before .before .before .before .before .before .before .before .before .before .before .before .before .before .before .args .sheet)) (now (c .before .before .before .before .before .before .before .before .before .before .before .before .before .before .before .before .args .index)) (c .before .before .before .before .before .before .before .before .before .before .before .before .before .before .before .before .pre .1 .prepared) (c .before .before .before .before .before .before .before .before .before .before .before .before .before .before .before .before .args .mark) (c .before .before .before .before .before .before .before .before .before .before .before .before .before .before .before .before .args .node .0) (c .before .before .before .before .before .before .before .before .before .before .before .before .before .before .before .before .args .state .0) (c .before .before .before .before .before .before .before .before .before .before .before .before .before .place .result) (c .before .before .before .before .before .before .before .before .before .before .before .before .before .place .ensures)), c .before .before .before .decide .kept .1 .1 .0), omega (arith, c .before .before .before .decide .ensures .small))
+  decide-fill-cell-requires-5 : decide-lts.Need-fill-cell-requires-5 (decide-claims t) (decide-at t) decide.Post
+  decide-fill-cell-requires-5 c κs = (omega (arith, cell-inside (now (c .before .before .before .before .before .before .before .before .before .before .before .before .before .before .before .before .args .sheet)) (now (c .before .before .before .before .before .before .before .before .before .before .before .before .before .before .before .before .args .index)) (now (c .before .before .before .before .before .before .before .before .before .before .before .before .before .before .before .before .args .table)) (c .before .before .before .before .before .before .before .before .before .before .before .before .before .before .before .before .args .mark) (c .before .before .before .before .before .before .before .before .before .before .before .before .before .before .before .before .args .node .0) (c .before .before .before .before .before .before .before .before .before .before .before .before .before .before .before .before .args .state .0) (c .before .before .before .before .before .before .before .before .before .before .before .before .before .before .before .before .pre .1) (c .before .before .before .before .before .before .before .before .before .before .before .before .before .place .result) (placed (now (c .before .before .before .before .before .before .before .before .before .before .before .before .before .before .before .before .args .sheet)) (now (c .before .before .before .before .before .before .before .before .before .before .before .before .before .before .before .before .args .index)) (c .before .before .before .before .before .before .before .before .before .before .before .before .before .before .before .before .pre .1 .prepared) (c .before .before .before .before .before .before .before .before .before .before .before .before .before .before .before .before .args .mark) (c .before .before .before .before .before .before .before .before .before .before .before .before .before .before .before .before .args .node .0) (c .before .before .before .before .before .before .before .before .before .before .before .before .before .before .before .before .args .state .0) (c .before .before .before .before .before .before .before .before .before .before .before .before .before .place .result) (c .before .before .before .before .before .before .before .before .before .before .before .before .before .place .ensures)), c .before .before .before .decide .kept .1 .1 .0), omega (arith, c .before .before .before .decide .ensures .small))
 
   decide-same-length : decide-lts.Need-same-length (decide-claims t) (decide-at t) decide.Post
-  decide-same-length c = c .before .before .close5 .kept .0 ∙ c .before .before .before .before .before .before .decide .kept .1 .1 .0
+  decide-same-length c = c .before .before .fill-cell5 .kept .0 ∙ c .before .before .before .before .before .before .decide .kept .1 .1 .0
 
   decide-returns-2 : decide-lts.Need-returns-2 (decide-claims t) (decide-at t) decide.Post
-  decide-returns-2 c = answer-outer (now (c .before .before .before .before .before .before .before .before .before .before .before .before .before .before .before .before .before .before .before .args .sheet)) (now (c .before .before .before .before .before .before .before .before .before .before .before .before .before .before .before .before .before .before .before .args .index)) (now (c .before .before .before .before .before .before .before .before .before .before .before .before .before .before .before .before .before .before .before .args .table)) (c .before .before .before .before .before .before .before .before .before .before .before .before .before .before .before .before .before .before .before .args .mark) (c .before .before .before .before .before .before .before .before .before .before .before .before .before .before .before .before .before .before .before .args .node .0) (c .before .before .before .before .before .before .before .before .before .before .before .before .before .before .before .before .before .before .before .args .state .0) (c .before .before .before .before .before .before .before .before .before .before .before .before .before .before .before .before .before .before .before .pre .1) (c .before .before .before .before .before .before .before .before .before .before .before .before .before .before .before .before .place .result) (placed (now (c .before .before .before .before .before .before .before .before .before .before .before .before .before .before .before .before .before .before .before .args .sheet)) (now (c .before .before .before .before .before .before .before .before .before .before .before .before .before .before .before .before .before .before .before .args .index)) (c .before .before .before .before .before .before .before .before .before .before .before .before .before .before .before .before .before .before .before .pre .1 .prepared) (c .before .before .before .before .before .before .before .before .before .before .before .before .before .before .before .before .before .before .before .args .mark) (c .before .before .before .before .before .before .before .before .before .before .before .before .before .before .before .before .before .before .before .args .node .0) (c .before .before .before .before .before .before .before .before .before .before .before .before .before .before .before .before .before .before .before .args .state .0) (c .before .before .before .before .before .before .before .before .before .before .before .before .before .before .before .before .place .result) (c .before .before .before .before .before .before .before .before .before .before .before .before .before .before .before .before .place .ensures)) (c .before .before .before .before .before .before .before .before .before .before .before .before .before .before .if1 .left) (c .before .before .before .before .before .before .before .before .before .before .before .x-of .result) (c .before .before .before .before .before .before .before .before .before .before .binder-of .result .0) (c .before .before .before .before .before .before .before .before .before .before .before .x-of .ensures) (binder-found (now (c .before .before .before .before .before .before .before .before .before .before .before .before .before .before .before .before .before .before .before .args .sheet)) (now (c .before .before .before .before .before .before .before .before .before .before .before .before .before .before .before .before .before .before .before .args .index)) (now (c .before .before .before .before .before .before .before .before .before .before .before .before .before .before .before .before .before .before .before .args .table)) (c .before .before .before .before .before .before .before .before .before .before .before .before .before .before .before .before .before .before .before .args .mark) (c .before .before .before .before .before .before .before .before .before .before .before .before .before .before .before .before .before .before .before .args .node .0) (c .before .before .before .before .before .before .before .before .before .before .before .before .before .before .before .before .before .before .before .args .state .0) (c .before .before .before .before .before .before .before .before .before .before .before .before .before .before .before .before .before .before .before .pre .1) (omega arith) (c .before .before .before .before .before .before .before .before .before .before .before .x-of .result) (c .before .before .before .before .before .before .before .before .before .before .binder-of .result .0) (c .before .before .before .before .before .before .before .before .before .before .before .x-of .ensures) (c .before .before .before .before .before .before .before .before .before .before .binder-of .ensures)) (omega arith) (sym (c .before .before .before .before .before .before .before .before .before .is-outer .ensures) ∙ c .before .before .before .before .before .before .before .before .if2 .taken) _ _ _ _ (c .before .before .before .before .before .before .decide .ensures) (c .before .before .close5 .ensures .0) (c .before .before .close5 .ensures .1)
+  decide-returns-2 c = answer-outer (now (c .before .before .before .before .before .before .before .before .before .before .before .before .before .before .before .before .before .before .before .args .sheet)) (now (c .before .before .before .before .before .before .before .before .before .before .before .before .before .before .before .before .before .before .before .args .index)) (now (c .before .before .before .before .before .before .before .before .before .before .before .before .before .before .before .before .before .before .before .args .table)) (c .before .before .before .before .before .before .before .before .before .before .before .before .before .before .before .before .before .before .before .args .mark) (c .before .before .before .before .before .before .before .before .before .before .before .before .before .before .before .before .before .before .before .args .node .0) (c .before .before .before .before .before .before .before .before .before .before .before .before .before .before .before .before .before .before .before .args .state .0) (c .before .before .before .before .before .before .before .before .before .before .before .before .before .before .before .before .before .before .before .pre .1) (c .before .before .before .before .before .before .before .before .before .before .before .before .before .before .before .before .place .result) (placed (now (c .before .before .before .before .before .before .before .before .before .before .before .before .before .before .before .before .before .before .before .args .sheet)) (now (c .before .before .before .before .before .before .before .before .before .before .before .before .before .before .before .before .before .before .before .args .index)) (c .before .before .before .before .before .before .before .before .before .before .before .before .before .before .before .before .before .before .before .pre .1 .prepared) (c .before .before .before .before .before .before .before .before .before .before .before .before .before .before .before .before .before .before .before .args .mark) (c .before .before .before .before .before .before .before .before .before .before .before .before .before .before .before .before .before .before .before .args .node .0) (c .before .before .before .before .before .before .before .before .before .before .before .before .before .before .before .before .before .before .before .args .state .0) (c .before .before .before .before .before .before .before .before .before .before .before .before .before .before .before .before .place .result) (c .before .before .before .before .before .before .before .before .before .before .before .before .before .before .before .before .place .ensures)) (c .before .before .before .before .before .before .before .before .before .before .before .before .before .before .if1 .left) (c .before .before .before .before .before .before .before .before .before .before .before .x-of .result) (c .before .before .before .before .before .before .before .before .before .before .binder-of .result .0) (c .before .before .before .before .before .before .before .before .before .before .before .x-of .ensures) (binder-found (now (c .before .before .before .before .before .before .before .before .before .before .before .before .before .before .before .before .before .before .before .args .sheet)) (now (c .before .before .before .before .before .before .before .before .before .before .before .before .before .before .before .before .before .before .before .args .index)) (now (c .before .before .before .before .before .before .before .before .before .before .before .before .before .before .before .before .before .before .before .args .table)) (c .before .before .before .before .before .before .before .before .before .before .before .before .before .before .before .before .before .before .before .args .mark) (c .before .before .before .before .before .before .before .before .before .before .before .before .before .before .before .before .before .before .before .args .node .0) (c .before .before .before .before .before .before .before .before .before .before .before .before .before .before .before .before .before .before .before .args .state .0) (c .before .before .before .before .before .before .before .before .before .before .before .before .before .before .before .before .before .before .before .pre .1) (omega arith) (c .before .before .before .before .before .before .before .before .before .before .before .x-of .result) (c .before .before .before .before .before .before .before .before .before .before .binder-of .result .0) (c .before .before .before .before .before .before .before .before .before .before .before .x-of .ensures) (c .before .before .before .before .before .before .before .before .before .before .binder-of .ensures)) (omega arith) (sym (c .before .before .before .before .before .before .before .before .before .is-outer .ensures) ∙ c .before .before .before .before .before .before .before .before .if2 .taken) _ _ _ _ (c .before .before .before .before .before .before .decide .ensures) (c .before .before .fill-cell5 .ensures .0) (c .before .before .fill-cell5 .ensures .1)
 
   decide-kind-of-requires-2 : decide-lts.Need-kind-of-requires-2 (decide-claims t) (decide-at t) decide.Post
   decide-kind-of-requires-2 c κs = binder-at (now (c .before .before .before .before .before .before .before .before .before .before .before .args .sheet)) (now (c .before .before .before .before .before .before .before .before .before .before .before .args .index)) (now (c .before .before .before .before .before .before .before .before .before .before .before .args .table)) (c .before .before .before .before .before .before .before .before .before .before .before .args .mark) (c .before .before .before .before .before .before .before .before .before .before .before .args .node .0) (c .before .before .before .before .before .before .before .before .before .before .before .args .state .0) (c .before .before .before .before .before .before .before .before .before .before .before .pre .1) (omega arith) (c .before .before .before .x-of .result) (c .before .before .binder-of .result .0) (c .before .before .before .x-of .ensures) (c .before .before .binder-of .ensures)
@@ -132,8 +134,8 @@ module _ (t : ℕ) where
   decide-number-of-requires : decide-lts.Need-number-of-requires (decide-claims t) (decide-at t) decide.Post
   decide-number-of-requires c κs = search needs
 
-  decide-close-requires-6 : decide-lts.Need-close-requires-6 (decide-claims t) (decide-at t) decide.Post
-  decide-close-requires-6 c κs = (cell-inside (now (c .before .before .before .before .before .before .before .before .before .before .before .before .before .before .args .sheet)) (now (c .before .before .before .before .before .before .before .before .before .before .before .before .before .before .args .index)) (now (c .before .before .before .before .before .before .before .before .before .before .before .before .before .before .args .table)) (c .before .before .before .before .before .before .before .before .before .before .before .before .before .before .args .mark) (c .before .before .before .before .before .before .before .before .before .before .before .before .before .before .args .node .0) (c .before .before .before .before .before .before .before .before .before .before .before .before .before .before .args .state .0) (c .before .before .before .before .before .before .before .before .before .before .before .before .before .before .pre .1) (c .before .before .before .before .before .before .before .before .before .before .before .place .result) (placed (now (c .before .before .before .before .before .before .before .before .before .before .before .before .before .before .args .sheet)) (now (c .before .before .before .before .before .before .before .before .before .before .before .before .before .before .args .index)) (c .before .before .before .before .before .before .before .before .before .before .before .before .before .before .pre .1 .prepared) (c .before .before .before .before .before .before .before .before .before .before .before .before .before .before .args .mark) (c .before .before .before .before .before .before .before .before .before .before .before .before .before .before .args .node .0) (c .before .before .before .before .before .before .before .before .before .before .before .before .before .before .args .state .0) (c .before .before .before .before .before .before .before .before .before .before .before .place .result) (c .before .before .before .before .before .before .before .before .before .before .before .place .ensures)), omega (arith, c .before .number-of .ensures .1))
+  decide-fill-cell-requires-6 : decide-lts.Need-fill-cell-requires-6 (decide-claims t) (decide-at t) decide.Post
+  decide-fill-cell-requires-6 c κs = (cell-inside (now (c .before .before .before .before .before .before .before .before .before .before .before .before .before .before .args .sheet)) (now (c .before .before .before .before .before .before .before .before .before .before .before .before .before .before .args .index)) (now (c .before .before .before .before .before .before .before .before .before .before .before .before .before .before .args .table)) (c .before .before .before .before .before .before .before .before .before .before .before .before .before .before .args .mark) (c .before .before .before .before .before .before .before .before .before .before .before .before .before .before .args .node .0) (c .before .before .before .before .before .before .before .before .before .before .before .before .before .before .args .state .0) (c .before .before .before .before .before .before .before .before .before .before .before .before .before .before .pre .1) (c .before .before .before .before .before .before .before .before .before .before .before .place .result) (placed (now (c .before .before .before .before .before .before .before .before .before .before .before .before .before .before .args .sheet)) (now (c .before .before .before .before .before .before .before .before .before .before .before .before .before .before .args .index)) (c .before .before .before .before .before .before .before .before .before .before .before .before .before .before .pre .1 .prepared) (c .before .before .before .before .before .before .before .before .before .before .before .before .before .before .args .mark) (c .before .before .before .before .before .before .before .before .before .before .before .before .before .before .args .node .0) (c .before .before .before .before .before .before .before .before .before .before .before .before .before .before .args .state .0) (c .before .before .before .before .before .before .before .before .before .before .before .place .result) (c .before .before .before .before .before .before .before .before .before .before .before .place .ensures)), omega (arith, c .before .number-of .ensures .1))
 
   decide-x-of-requires-2 : decide-lts.Need-x-of-requires-2 (decide-claims t) (decide-at t) decide.Post
   decide-x-of-requires-2 c κs = node-at (now (c .before .before .before .before .before .before .before .before .args .sheet)) (now (c .before .before .before .before .before .before .before .before .args .index)) (now (c .before .before .before .before .before .before .before .before .args .table)) (c .before .before .before .before .before .before .before .before .args .mark) (c .before .before .before .before .before .before .before .before .args .node .0) (c .before .before .before .before .before .before .before .before .args .state .0) (c .before .before .before .before .before .before .before .before .pre .1)
@@ -144,14 +146,14 @@ module _ (t : ℕ) where
   decide-decides-requires : decide-lts.Need-decides-requires (decide-claims t) (decide-at t) decide.Post
   decide-decides-requires c κs = search needs
 
-  decide-close-requires-7 : decide-lts.Need-close-requires-7 (decide-claims t) (decide-at t) decide.Post
-  decide-close-requires-7 c κs = (omega (arith, cell-inside (now (c .before .before .before .before .before .before .before .before .before .before .before .before .before .before .before .before .args .sheet)) (now (c .before .before .before .before .before .before .before .before .before .before .before .before .before .before .before .before .args .index)) (now (c .before .before .before .before .before .before .before .before .before .before .before .before .before .before .before .before .args .table)) (c .before .before .before .before .before .before .before .before .before .before .before .before .before .before .before .before .args .mark) (c .before .before .before .before .before .before .before .before .before .before .before .before .before .before .before .before .args .node .0) (c .before .before .before .before .before .before .before .before .before .before .before .before .before .before .before .before .args .state .0) (c .before .before .before .before .before .before .before .before .before .before .before .before .before .before .before .before .pre .1) (c .before .before .before .before .before .before .before .before .before .before .before .before .before .place .result) (placed (now (c .before .before .before .before .before .before .before .before .before .before .before .before .before .before .before .before .args .sheet)) (now (c .before .before .before .before .before .before .before .before .before .before .before .before .before .before .before .before .args .index)) (c .before .before .before .before .before .before .before .before .before .before .before .before .before .before .before .before .pre .1 .prepared) (c .before .before .before .before .before .before .before .before .before .before .before .before .before .before .before .before .args .mark) (c .before .before .before .before .before .before .before .before .before .before .before .before .before .before .before .before .args .node .0) (c .before .before .before .before .before .before .before .before .before .before .before .before .before .before .before .before .args .state .0) (c .before .before .before .before .before .before .before .before .before .before .before .before .before .place .result) (c .before .before .before .before .before .before .before .before .before .before .before .before .before .place .ensures)), c .before .before .before .before .before .decide2 .kept .1 .1 .0), omega (arith, c .before .before .before .before .before .decide2 .ensures .small))
+  decide-fill-cell-requires-7 : decide-lts.Need-fill-cell-requires-7 (decide-claims t) (decide-at t) decide.Post
+  decide-fill-cell-requires-7 c κs = (omega (arith, cell-inside (now (c .before .before .before .before .before .before .before .before .before .before .before .before .before .before .before .before .args .sheet)) (now (c .before .before .before .before .before .before .before .before .before .before .before .before .before .before .before .before .args .index)) (now (c .before .before .before .before .before .before .before .before .before .before .before .before .before .before .before .before .args .table)) (c .before .before .before .before .before .before .before .before .before .before .before .before .before .before .before .before .args .mark) (c .before .before .before .before .before .before .before .before .before .before .before .before .before .before .before .before .args .node .0) (c .before .before .before .before .before .before .before .before .before .before .before .before .before .before .before .before .args .state .0) (c .before .before .before .before .before .before .before .before .before .before .before .before .before .before .before .before .pre .1) (c .before .before .before .before .before .before .before .before .before .before .before .before .before .place .result) (placed (now (c .before .before .before .before .before .before .before .before .before .before .before .before .before .before .before .before .args .sheet)) (now (c .before .before .before .before .before .before .before .before .before .before .before .before .before .before .before .before .args .index)) (c .before .before .before .before .before .before .before .before .before .before .before .before .before .before .before .before .pre .1 .prepared) (c .before .before .before .before .before .before .before .before .before .before .before .before .before .before .before .before .args .mark) (c .before .before .before .before .before .before .before .before .before .before .before .before .before .before .before .before .args .node .0) (c .before .before .before .before .before .before .before .before .before .before .before .before .before .before .before .before .args .state .0) (c .before .before .before .before .before .before .before .before .before .before .before .before .before .place .result) (c .before .before .before .before .before .before .before .before .before .before .before .before .before .place .ensures)), c .before .before .before .before .before .decide2 .kept .1 .1 .0), omega (arith, c .before .before .before .before .before .decide2 .ensures .small))
 
   decide-same-length-2 : decide-lts.Need-same-length-2 (decide-claims t) (decide-at t) decide.Post
-  decide-same-length-2 c = c .before .before .close7 .kept .0 ∙ c .before .before .before .before .before .before .before .before .decide2 .kept .1 .1 .0
+  decide-same-length-2 c = c .before .before .fill-cell7 .kept .0 ∙ c .before .before .before .before .before .before .before .before .decide2 .kept .1 .1 .0
 
   decide-returns-3 : decide-lts.Need-returns-3 (decide-claims t) (decide-at t) decide.Post
-  decide-returns-3 c = answer-first (now (c .before .before .before .before .before .before .before .before .before .before .before .before .before .before .before .before .before .before .before .args .sheet)) (now (c .before .before .before .before .before .before .before .before .before .before .before .before .before .before .before .before .before .before .before .args .index)) (now (c .before .before .before .before .before .before .before .before .before .before .before .before .before .before .before .before .before .before .before .args .table)) (c .before .before .before .before .before .before .before .before .before .before .before .before .before .before .before .before .before .before .before .args .mark) (c .before .before .before .before .before .before .before .before .before .before .before .before .before .before .before .before .before .before .before .args .node .0) (c .before .before .before .before .before .before .before .before .before .before .before .before .before .before .before .before .before .before .before .args .state .0) (c .before .before .before .before .before .before .before .before .before .before .before .before .before .before .before .before .before .before .before .pre .1) (c .before .before .before .before .before .before .before .before .before .before .before .before .before .before .before .before .place .result) (placed (now (c .before .before .before .before .before .before .before .before .before .before .before .before .before .before .before .before .before .before .before .args .sheet)) (now (c .before .before .before .before .before .before .before .before .before .before .before .before .before .before .before .before .before .before .before .args .index)) (c .before .before .before .before .before .before .before .before .before .before .before .before .before .before .before .before .before .before .before .pre .1 .prepared) (c .before .before .before .before .before .before .before .before .before .before .before .before .before .before .before .before .before .before .before .args .mark) (c .before .before .before .before .before .before .before .before .before .before .before .before .before .before .before .before .before .before .before .args .node .0) (c .before .before .before .before .before .before .before .before .before .before .before .before .before .before .before .before .before .before .before .args .state .0) (c .before .before .before .before .before .before .before .before .before .before .before .before .before .before .before .before .place .result) (c .before .before .before .before .before .before .before .before .before .before .before .before .before .before .before .before .place .ensures)) (c .before .before .before .before .before .before .before .before .before .before .before .before .before .before .if1 .left) (c .before .before .before .before .before .before .before .before .before .before .x-of2 .result) (c .before .before .before .before .before .before .before .before .before .before .x-of2 .ensures) (omega arith) (omega arith) (c .before .before .before .before .before .before .before .before .decide2 .result) _ (c .before .before .before .before .before .before .before .before .decide2 .ensures) (ap (λ (k : ℕ). Bool·beq (verdictIn (c .before .before .before .before .before .before .before .before .decide2 .result)) (eqb k 2)) (sym (c .before .before .before .before .before .before .before .before .before .before .before .before .before .kind-of .ensures)) ∙ (sym (c .before .before .before .before .before .decides .ensures) ∙ c .before .before .before .before .if4 .taken)) _ _ (c .before .before .close7 .ensures .0) (c .before .before .close7 .ensures .1)
+  decide-returns-3 c = answer-first (now (c .before .before .before .before .before .before .before .before .before .before .before .before .before .before .before .before .before .before .before .args .sheet)) (now (c .before .before .before .before .before .before .before .before .before .before .before .before .before .before .before .before .before .before .before .args .index)) (now (c .before .before .before .before .before .before .before .before .before .before .before .before .before .before .before .before .before .before .before .args .table)) (c .before .before .before .before .before .before .before .before .before .before .before .before .before .before .before .before .before .before .before .args .mark) (c .before .before .before .before .before .before .before .before .before .before .before .before .before .before .before .before .before .before .before .args .node .0) (c .before .before .before .before .before .before .before .before .before .before .before .before .before .before .before .before .before .before .before .args .state .0) (c .before .before .before .before .before .before .before .before .before .before .before .before .before .before .before .before .before .before .before .pre .1) (c .before .before .before .before .before .before .before .before .before .before .before .before .before .before .before .before .place .result) (placed (now (c .before .before .before .before .before .before .before .before .before .before .before .before .before .before .before .before .before .before .before .args .sheet)) (now (c .before .before .before .before .before .before .before .before .before .before .before .before .before .before .before .before .before .before .before .args .index)) (c .before .before .before .before .before .before .before .before .before .before .before .before .before .before .before .before .before .before .before .pre .1 .prepared) (c .before .before .before .before .before .before .before .before .before .before .before .before .before .before .before .before .before .before .before .args .mark) (c .before .before .before .before .before .before .before .before .before .before .before .before .before .before .before .before .before .before .before .args .node .0) (c .before .before .before .before .before .before .before .before .before .before .before .before .before .before .before .before .before .before .before .args .state .0) (c .before .before .before .before .before .before .before .before .before .before .before .before .before .before .before .before .place .result) (c .before .before .before .before .before .before .before .before .before .before .before .before .before .before .before .before .place .ensures)) (c .before .before .before .before .before .before .before .before .before .before .before .before .before .before .if1 .left) (c .before .before .before .before .before .before .before .before .before .before .x-of2 .result) (c .before .before .before .before .before .before .before .before .before .before .x-of2 .ensures) (omega arith) (omega arith) (c .before .before .before .before .before .before .before .before .decide2 .result) _ (c .before .before .before .before .before .before .before .before .decide2 .ensures) (ap (λ (k : ℕ). Bool·beq (verdictIn (c .before .before .before .before .before .before .before .before .decide2 .result)) (eqb k 2)) (sym (c .before .before .before .before .before .before .before .before .before .before .before .before .before .kind-of .ensures)) ∙ (sym (c .before .before .before .before .before .decides .ensures) ∙ c .before .before .before .before .if4 .taken)) _ _ (c .before .before .fill-cell7 .ensures .0) (c .before .before .fill-cell7 .ensures .1)
 
   decide-y-of-requires : decide-lts.Need-y-of-requires (decide-claims t) (decide-at t) decide.Post
   decide-y-of-requires c κs = node-at (now (c .before .before .before .before .before .before .before .before .before .before .before .before .before .before .before .args .sheet)) (now (c .before .before .before .before .before .before .before .before .before .before .before .before .before .before .before .args .index)) (now (c .before .before .before .before .before .before .before .before .before .before .before .before .before .before .before .args .table)) (c .before .before .before .before .before .before .before .before .before .before .before .before .before .before .before .args .mark) (c .before .before .before .before .before .before .before .before .before .before .before .before .before .before .before .args .node .0) (c .before .before .before .before .before .before .before .before .before .before .before .before .before .before .before .args .state .0) (c .before .before .before .before .before .before .before .before .before .before .before .before .before .before .before .pre .1)
@@ -162,8 +164,8 @@ module _ (t : ℕ) where
   decide-both-requires : decide-lts.Need-both-requires (decide-claims t) (decide-at t) decide.Post
   decide-both-requires c κs = (omega (arith, c .before .before .before .before .before .before .before .before .before .decide2 .ensures .small), omega (arith, c .before .before .decide3 .ensures .small))
 
-  decide-close-requires-8 : decide-lts.Need-close-requires-8 (decide-claims t) (decide-at t) decide.Post
-  decide-close-requires-8 c κs = (omega (arith, cell-inside (now (c .before .before .before .before .before .before .before .before .before .before .before .before .before .before .before .before .before .before .before .before .before .before .args .sheet)) (now (c .before .before .before .before .before .before .before .before .before .before .before .before .before .before .before .before .before .before .before .before .before .before .args .index)) (now (c .before .before .before .before .before .before .before .before .before .before .before .before .before .before .before .before .before .before .before .before .before .before .args .table)) (c .before .before .before .before .before .before .before .before .before .before .before .before .before .before .before .before .before .before .before .before .before .before .args .mark) (c .before .before .before .before .before .before .before .before .before .before .before .before .before .before .before .before .before .before .before .before .before .before .args .node .0) (c .before .before .before .before .before .before .before .before .before .before .before .before .before .before .before .before .before .before .before .before .before .before .args .state .0) (c .before .before .before .before .before .before .before .before .before .before .before .before .before .before .before .before .before .before .before .before .before .before .pre .1) (c .before .before .before .before .before .before .before .before .before .before .before .before .before .before .before .before .before .before .before .place .result) (placed (now (c .before .before .before .before .before .before .before .before .before .before .before .before .before .before .before .before .before .before .before .before .before .before .args .sheet)) (now (c .before .before .before .before .before .before .before .before .before .before .before .before .before .before .before .before .before .before .before .before .before .before .args .index)) (c .before .before .before .before .before .before .before .before .before .before .before .before .before .before .before .before .before .before .before .before .before .before .pre .1 .prepared) (c .before .before .before .before .before .before .before .before .before .before .before .before .before .before .before .before .before .before .before .before .before .before .args .mark) (c .before .before .before .before .before .before .before .before .before .before .before .before .before .before .before .before .before .before .before .before .before .before .args .node .0) (c .before .before .before .before .before .before .before .before .before .before .before .before .before .before .before .before .before .before .before .before .before .before .args .state .0) (c .before .before .before .before .before .before .before .before .before .before .before .before .before .before .before .before .before .before .before .place .result) (c .before .before .before .before .before .before .before .before .before .before .before .before .before .before .before .before .before .before .before .place .ensures)), c .before .before .before .before .before .before .before .before .before .before .before .decide2 .kept .1 .1 .0, c .before .before .before .before .decide3 .kept .1 .1 .0), omega (arith, c .before .both .ensures .small, c .before .before .before .before .before .before .before .before .before .before .before .decide2 .ensures .small, c .before .before .before .before .decide3 .ensures .small))
+  decide-fill-cell-requires-8 : decide-lts.Need-fill-cell-requires-8 (decide-claims t) (decide-at t) decide.Post
+  decide-fill-cell-requires-8 c κs = (omega (arith, cell-inside (now (c .before .before .before .before .before .before .before .before .before .before .before .before .before .before .before .before .before .before .before .before .before .before .args .sheet)) (now (c .before .before .before .before .before .before .before .before .before .before .before .before .before .before .before .before .before .before .before .before .before .before .args .index)) (now (c .before .before .before .before .before .before .before .before .before .before .before .before .before .before .before .before .before .before .before .before .before .before .args .table)) (c .before .before .before .before .before .before .before .before .before .before .before .before .before .before .before .before .before .before .before .before .before .before .args .mark) (c .before .before .before .before .before .before .before .before .before .before .before .before .before .before .before .before .before .before .before .before .before .before .args .node .0) (c .before .before .before .before .before .before .before .before .before .before .before .before .before .before .before .before .before .before .before .before .before .before .args .state .0) (c .before .before .before .before .before .before .before .before .before .before .before .before .before .before .before .before .before .before .before .before .before .before .pre .1) (c .before .before .before .before .before .before .before .before .before .before .before .before .before .before .before .before .before .before .before .place .result) (placed (now (c .before .before .before .before .before .before .before .before .before .before .before .before .before .before .before .before .before .before .before .before .before .before .args .sheet)) (now (c .before .before .before .before .before .before .before .before .before .before .before .before .before .before .before .before .before .before .before .before .before .before .args .index)) (c .before .before .before .before .before .before .before .before .before .before .before .before .before .before .before .before .before .before .before .before .before .before .pre .1 .prepared) (c .before .before .before .before .before .before .before .before .before .before .before .before .before .before .before .before .before .before .before .before .before .before .args .mark) (c .before .before .before .before .before .before .before .before .before .before .before .before .before .before .before .before .before .before .before .before .before .before .args .node .0) (c .before .before .before .before .before .before .before .before .before .before .before .before .before .before .before .before .before .before .before .before .before .before .args .state .0) (c .before .before .before .before .before .before .before .before .before .before .before .before .before .before .before .before .before .before .before .place .result) (c .before .before .before .before .before .before .before .before .before .before .before .before .before .before .before .before .before .before .before .place .ensures)), c .before .before .before .before .before .before .before .before .before .before .before .decide2 .kept .1 .1 .0, c .before .before .before .before .decide3 .kept .1 .1 .0), omega (arith, c .before .both .ensures .small, c .before .before .before .before .before .before .before .before .before .before .before .decide2 .ensures .small, c .before .before .before .before .decide3 .ensures .small))
 
   decide-x-of-requires-3 : decide-lts.Need-x-of-requires-3 (decide-claims t) (decide-at t) decide.Post
   decide-x-of-requires-3 c κs = node-at (now (c .before .before .before .before .before .before .before .before .before .args .sheet)) (now (c .before .before .before .before .before .before .before .before .before .args .index)) (now (c .before .before .before .before .before .before .before .before .before .args .table)) (c .before .before .before .before .before .before .before .before .before .args .mark) (c .before .before .before .before .before .before .before .before .before .args .node .0) (c .before .before .before .before .before .before .before .before .before .args .state .0) (c .before .before .before .before .before .before .before .before .before .pre .1)
@@ -172,68 +174,68 @@ module _ (t : ℕ) where
   decide-y-of-requires-2 c κs = node-at (now (c .before .before .before .before .before .before .before .before .before .before .args .sheet)) (now (c .before .before .before .before .before .before .before .before .before .before .args .index)) (now (c .before .before .before .before .before .before .before .before .before .before .args .table)) (c .before .before .before .before .before .before .before .before .before .before .args .mark) (c .before .before .before .before .before .before .before .before .before .before .args .node .0) (c .before .before .before .before .before .before .before .before .before .before .args .state .0) (c .before .before .before .before .before .before .before .before .before .before .pre .1)
 
   decide-opening-requires : decide-lts.Need-opening-requires (decide-claims t) (decide-at t) decide.Post
-  decide-opening-requires c κs = omega (arith, c .before .before .x-of3 .ensures, binder-x (now (c .before .before .before .before .before .before .before .before .before .before .before .before .args .sheet)) (now (c .before .before .before .before .before .before .before .before .before .before .before .before .args .index)) (now (c .before .before .before .before .before .before .before .before .before .before .before .before .args .table)) (c .before .before .before .before .before .before .before .before .before .before .before .before .args .mark) (c .before .before .before .before .before .before .before .before .before .before .before .before .args .node .0) (c .before .before .before .before .before .before .before .before .before .before .before .before .args .state .0) (c .before .before .before .before .before .before .before .before .before .before .before .before .pre .1) (omega arith) (omega arith))
+  decide-opening-requires c κs = omega (arith, c .before .x-of3 .ensures, binder-x (now (c .before .before .before .before .before .before .before .before .before .before .before .args .sheet)) (now (c .before .before .before .before .before .before .before .before .before .before .before .args .index)) (now (c .before .before .before .before .before .before .before .before .before .before .before .args .table)) (c .before .before .before .before .before .before .before .before .before .before .before .args .mark) (c .before .before .before .before .before .before .before .before .before .before .before .args .node .0) (c .before .before .before .before .before .before .before .before .before .before .before .args .state .0) (c .before .before .before .before .before .before .before .before .before .before .before .pre .1) (omega arith) (omega arith))
 
   decide-decide-requires-4 : decide-lts.Need-decide-requires-4 (decide-claims t) (decide-at t) decide.Post
-  decide-decide-requires-4 c κs = let w = call-body (now (c .before .before .before .before .before .before .before .before .before .before .before .before .before .args .sheet)) (now (c .before .before .before .before .before .before .before .before .before .before .before .before .before .args .index)) (now (c .before .before .before .before .before .before .before .before .before .before .before .before .before .args .table)) (c .before .before .before .before .before .before .before .before .before .before .before .before .before .args .mark) (c .before .before .before .before .before .before .before .before .before .before .before .before .before .args .node .0) (c .before .before .before .before .before .before .before .before .before .before .before .before .before .args .state .0) (c .before .before .before .before .before .before .before .before .before .before .before .before .before .pre .1) (now (c .before .before .before .before .before .before .before .before .before .before .before .before .before .args .table)) (c .before .before .before .before .before .before .before .before .before .before .before .before .before .pre .1 .room) (c .opening .result) (c .before .before .y-of2 .result) (c .opening .ensures ∙ ap (λ (k : ℕ). opened k (c .before .before .before .before .before .before .before .before .before .before .before .before .before .args .mark)) (c .before .before .before .x-of3 .ensures)) (c .before .before .y-of2 .ensures) (omega arith) (omega arith) in (omega (arith, w .0, c .before .before .before .before .before .before .before .before .before .before .before .before .before .pre .0), w .1)
+  decide-decide-requires-4 c κs = let w = call-body (now (c .before .before .before .before .before .before .before .before .before .before .before .before .before .args .sheet)) (now (c .before .before .before .before .before .before .before .before .before .before .before .before .before .args .index)) (now (c .before .before .before .before .before .before .before .before .before .before .before .before .before .args .table)) (c .before .before .before .before .before .before .before .before .before .before .before .before .before .args .mark) (c .before .before .before .before .before .before .before .before .before .before .before .before .before .args .node .0) (c .before .before .before .before .before .before .before .before .before .before .before .before .before .args .state .0) (c .before .before .before .before .before .before .before .before .before .before .before .before .before .pre .1) (now (c .before .before .before .before .before .before .before .before .before .before .before .before .before .args .table)) (c .before .before .before .before .before .before .before .before .before .before .before .before .before .pre .1 .room) (c .before .opening .result) (c .before .before .y-of2 .result) (c .before .opening .ensures ∙ ap (λ (k : ℕ). opened k (c .before .before .before .before .before .before .before .before .before .before .before .before .before .args .mark)) (c .before .before .before .x-of3 .ensures)) (c .before .before .y-of2 .ensures) (omega arith) (omega arith) in (omega (arith, w .0, c .before .before .before .before .before .before .before .before .before .before .before .before .before .pre .0), w .1)
 
-  decide-close-requires-9 : decide-lts.Need-close-requires-9 (decide-claims t) (decide-at t) decide.Post
-  decide-close-requires-9 c κs = (omega (arith, cell-inside (now (c .before .before .before .before .before .before .before .before .before .before .before .before .before .before .before .before .before .args .sheet)) (now (c .before .before .before .before .before .before .before .before .before .before .before .before .before .before .before .before .before .args .index)) (now (c .before .before .before .before .before .before .before .before .before .before .before .before .before .before .before .before .before .args .table)) (c .before .before .before .before .before .before .before .before .before .before .before .before .before .before .before .before .before .args .mark) (c .before .before .before .before .before .before .before .before .before .before .before .before .before .before .before .before .before .args .node .0) (c .before .before .before .before .before .before .before .before .before .before .before .before .before .before .before .before .before .args .state .0) (c .before .before .before .before .before .before .before .before .before .before .before .before .before .before .before .before .before .pre .1) (c .before .before .before .before .before .before .before .before .before .before .before .before .before .before .place .result) (placed (now (c .before .before .before .before .before .before .before .before .before .before .before .before .before .before .before .before .before .args .sheet)) (now (c .before .before .before .before .before .before .before .before .before .before .before .before .before .before .before .before .before .args .index)) (c .before .before .before .before .before .before .before .before .before .before .before .before .before .before .before .before .before .pre .1 .prepared) (c .before .before .before .before .before .before .before .before .before .before .before .before .before .before .before .before .before .args .mark) (c .before .before .before .before .before .before .before .before .before .before .before .before .before .before .before .before .before .args .node .0) (c .before .before .before .before .before .before .before .before .before .before .before .before .before .before .before .before .before .args .state .0) (c .before .before .before .before .before .before .before .before .before .before .before .before .before .before .place .result) (c .before .before .before .before .before .before .before .before .before .before .before .before .before .before .place .ensures)), c .before .before .before .decide4 .kept .1 .1 .0), omega (arith, c .before .before .before .decide4 .ensures .small))
+  decide-fill-cell-requires-9 : decide-lts.Need-fill-cell-requires-9 (decide-claims t) (decide-at t) decide.Post
+  decide-fill-cell-requires-9 c κs = (omega (arith, cell-inside (now (c .before .before .before .before .before .before .before .before .before .before .before .before .before .before .before .before .before .args .sheet)) (now (c .before .before .before .before .before .before .before .before .before .before .before .before .before .before .before .before .before .args .index)) (now (c .before .before .before .before .before .before .before .before .before .before .before .before .before .before .before .before .before .args .table)) (c .before .before .before .before .before .before .before .before .before .before .before .before .before .before .before .before .before .args .mark) (c .before .before .before .before .before .before .before .before .before .before .before .before .before .before .before .before .before .args .node .0) (c .before .before .before .before .before .before .before .before .before .before .before .before .before .before .before .before .before .args .state .0) (c .before .before .before .before .before .before .before .before .before .before .before .before .before .before .before .before .before .pre .1) (c .before .before .before .before .before .before .before .before .before .before .before .before .before .before .place .result) (placed (now (c .before .before .before .before .before .before .before .before .before .before .before .before .before .before .before .before .before .args .sheet)) (now (c .before .before .before .before .before .before .before .before .before .before .before .before .before .before .before .before .before .args .index)) (c .before .before .before .before .before .before .before .before .before .before .before .before .before .before .before .before .before .pre .1 .prepared) (c .before .before .before .before .before .before .before .before .before .before .before .before .before .before .before .before .before .args .mark) (c .before .before .before .before .before .before .before .before .before .before .before .before .before .before .before .before .before .args .node .0) (c .before .before .before .before .before .before .before .before .before .before .before .before .before .before .before .before .before .args .state .0) (c .before .before .before .before .before .before .before .before .before .before .before .before .before .before .place .result) (c .before .before .before .before .before .before .before .before .before .before .before .before .before .before .place .ensures)), c .before .before .before .decide4 .kept .1 .1 .0), omega (arith, c .before .before .before .decide4 .ensures .small))
 
-  decide-close-requires-10 : decide-lts.Need-close-requires-10 (decide-claims t) (decide-at t) decide.Post
-  decide-close-requires-10 c κs = (cell-inside (now (c .before .before .before .before .before .before .before .before .before .before .args .sheet)) (now (c .before .before .before .before .before .before .before .before .before .before .args .index)) (now (c .before .before .before .before .before .before .before .before .before .before .args .table)) (c .before .before .before .before .before .before .before .before .before .before .args .mark) (c .before .before .before .before .before .before .before .before .before .before .args .node .0) (c .before .before .before .before .before .before .before .before .before .before .args .state .0) (c .before .before .before .before .before .before .before .before .before .before .pre .1) (c .before .before .before .before .before .before .before .place .result) (placed (now (c .before .before .before .before .before .before .before .before .before .before .args .sheet)) (now (c .before .before .before .before .before .before .before .before .before .before .args .index)) (c .before .before .before .before .before .before .before .before .before .before .pre .1 .prepared) (c .before .before .before .before .before .before .before .before .before .before .args .mark) (c .before .before .before .before .before .before .before .before .before .before .args .node .0) (c .before .before .before .before .before .before .before .before .before .before .args .state .0) (c .before .before .before .before .before .before .before .place .result) (c .before .before .before .before .before .before .before .place .ensures)), omega arith)
+  decide-fill-cell-requires-10 : decide-lts.Need-fill-cell-requires-10 (decide-claims t) (decide-at t) decide.Post
+  decide-fill-cell-requires-10 c κs = (cell-inside (now (c .before .before .before .before .before .before .before .before .before .before .args .sheet)) (now (c .before .before .before .before .before .before .before .before .before .before .args .index)) (now (c .before .before .before .before .before .before .before .before .before .before .args .table)) (c .before .before .before .before .before .before .before .before .before .before .args .mark) (c .before .before .before .before .before .before .before .before .before .before .args .node .0) (c .before .before .before .before .before .before .before .before .before .before .args .state .0) (c .before .before .before .before .before .before .before .before .before .before .pre .1) (c .before .before .before .before .before .before .before .place .result) (placed (now (c .before .before .before .before .before .before .before .before .before .before .args .sheet)) (now (c .before .before .before .before .before .before .before .before .before .before .args .index)) (c .before .before .before .before .before .before .before .before .before .before .pre .1 .prepared) (c .before .before .before .before .before .before .before .before .before .before .args .mark) (c .before .before .before .before .before .before .before .before .before .before .args .node .0) (c .before .before .before .before .before .before .before .before .before .before .args .state .0) (c .before .before .before .before .before .before .before .place .result) (c .before .before .before .before .before .before .before .place .ensures)), omega arith)
 
   decide-same-length-3 : decide-lts.Need-same-length-3 (decide-claims t) (decide-at t) decide.Post
-  decide-same-length-3 c = c .before .before .close .kept .0
+  decide-same-length-3 c = c .before .before .fill-cell .kept .0
 
   decide-returns-4 : decide-lts.Need-returns-4 (decide-claims t) (decide-at t) decide.Post
-  decide-returns-4 c = answer-false (now (c .before .before .before .before .before .before .before .before .before .before .before .args .sheet)) (now (c .before .before .before .before .before .before .before .before .before .before .before .args .index)) (now (c .before .before .before .before .before .before .before .before .before .before .before .args .table)) (c .before .before .before .before .before .before .before .before .before .before .before .args .mark) (c .before .before .before .before .before .before .before .before .before .before .before .args .node .0) (c .before .before .before .before .before .before .before .before .before .before .before .args .state .0) (c .before .before .before .before .before .before .before .before .before .before .before .pre .1) (c .before .before .before .before .before .before .before .before .place .result) (placed (now (c .before .before .before .before .before .before .before .before .before .before .before .args .sheet)) (now (c .before .before .before .before .before .before .before .before .before .before .before .args .index)) (c .before .before .before .before .before .before .before .before .before .before .before .pre .1 .prepared) (c .before .before .before .before .before .before .before .before .before .before .before .args .mark) (c .before .before .before .before .before .before .before .before .before .before .before .args .node .0) (c .before .before .before .before .before .before .before .before .before .before .before .args .state .0) (c .before .before .before .before .before .before .before .before .place .result) (c .before .before .before .before .before .before .before .before .place .ensures)) (c .before .before .before .before .before .before .if1 .left) (omega arith) _ _ (c .before .before .close .ensures .0) (c .before .before .close .ensures .1)
+  decide-returns-4 c = answer-false (now (c .before .before .before .before .before .before .before .before .before .before .before .args .sheet)) (now (c .before .before .before .before .before .before .before .before .before .before .before .args .index)) (now (c .before .before .before .before .before .before .before .before .before .before .before .args .table)) (c .before .before .before .before .before .before .before .before .before .before .before .args .mark) (c .before .before .before .before .before .before .before .before .before .before .before .args .node .0) (c .before .before .before .before .before .before .before .before .before .before .before .args .state .0) (c .before .before .before .before .before .before .before .before .before .before .before .pre .1) (c .before .before .before .before .before .before .before .before .place .result) (placed (now (c .before .before .before .before .before .before .before .before .before .before .before .args .sheet)) (now (c .before .before .before .before .before .before .before .before .before .before .before .args .index)) (c .before .before .before .before .before .before .before .before .before .before .before .pre .1 .prepared) (c .before .before .before .before .before .before .before .before .before .before .before .args .mark) (c .before .before .before .before .before .before .before .before .before .before .before .args .node .0) (c .before .before .before .before .before .before .before .before .before .before .before .args .state .0) (c .before .before .before .before .before .before .before .before .place .result) (c .before .before .before .before .before .before .before .before .place .ensures)) (c .before .before .before .before .before .before .if1 .left) (omega arith) _ _ (c .before .before .fill-cell .ensures .0) (c .before .before .fill-cell .ensures .1)
 
   decide-same-length-4 : decide-lts.Need-same-length-4 (decide-claims t) (decide-at t) decide.Post
-  decide-same-length-4 c = c .before .before .close2 .kept .0
+  decide-same-length-4 c = c .before .before .fill-cell2 .kept .0
 
   decide-returns-5 : decide-lts.Need-returns-5 (decide-claims t) (decide-at t) decide.Post
-  decide-returns-5 c = answer-true (now (c .before .before .before .before .before .before .before .before .before .before .before .args .sheet)) (now (c .before .before .before .before .before .before .before .before .before .before .before .args .index)) (now (c .before .before .before .before .before .before .before .before .before .before .before .args .table)) (c .before .before .before .before .before .before .before .before .before .before .before .args .mark) (c .before .before .before .before .before .before .before .before .before .before .before .args .node .0) (c .before .before .before .before .before .before .before .before .before .before .before .args .state .0) (c .before .before .before .before .before .before .before .before .before .before .before .pre .1) (c .before .before .before .before .before .before .before .before .place .result) (placed (now (c .before .before .before .before .before .before .before .before .before .before .before .args .sheet)) (now (c .before .before .before .before .before .before .before .before .before .before .before .args .index)) (c .before .before .before .before .before .before .before .before .before .before .before .pre .1 .prepared) (c .before .before .before .before .before .before .before .before .before .before .before .args .mark) (c .before .before .before .before .before .before .before .before .before .before .before .args .node .0) (c .before .before .before .before .before .before .before .before .before .before .before .args .state .0) (c .before .before .before .before .before .before .before .before .place .result) (c .before .before .before .before .before .before .before .before .place .ensures)) (c .before .before .before .before .before .before .if1 .left) (omega arith) _ _ (c .before .before .close2 .ensures .0) (c .before .before .close2 .ensures .1)
+  decide-returns-5 c = answer-true (now (c .before .before .before .before .before .before .before .before .before .before .before .args .sheet)) (now (c .before .before .before .before .before .before .before .before .before .before .before .args .index)) (now (c .before .before .before .before .before .before .before .before .before .before .before .args .table)) (c .before .before .before .before .before .before .before .before .before .before .before .args .mark) (c .before .before .before .before .before .before .before .before .before .before .before .args .node .0) (c .before .before .before .before .before .before .before .before .before .before .before .args .state .0) (c .before .before .before .before .before .before .before .before .before .before .before .pre .1) (c .before .before .before .before .before .before .before .before .place .result) (placed (now (c .before .before .before .before .before .before .before .before .before .before .before .args .sheet)) (now (c .before .before .before .before .before .before .before .before .before .before .before .args .index)) (c .before .before .before .before .before .before .before .before .before .before .before .pre .1 .prepared) (c .before .before .before .before .before .before .before .before .before .before .before .args .mark) (c .before .before .before .before .before .before .before .before .before .before .before .args .node .0) (c .before .before .before .before .before .before .before .before .before .before .before .args .state .0) (c .before .before .before .before .before .before .before .before .place .result) (c .before .before .before .before .before .before .before .before .place .ensures)) (c .before .before .before .before .before .before .if1 .left) (omega arith) _ _ (c .before .before .fill-cell2 .ensures .0) (c .before .before .fill-cell2 .ensures .1)
 
   decide-same-length-5 : decide-lts.Need-same-length-5 (decide-claims t) (decide-at t) decide.Post
-  decide-same-length-5 c = c .before .before .close3 .kept .0 ∙ c .before .before .before .before .before .before .follow .kept .1 .1 .0
+  decide-same-length-5 c = c .before .before .fill-cell3 .kept .0 ∙ c .before .before .before .before .before .before .follow .kept .1 .1 .0
 
   decide-returns-6 : decide-lts.Need-returns-6 (decide-claims t) (decide-at t) decide.Post
-  decide-returns-6 c = answer-modal (now (c .before .before .before .before .before .before .before .before .before .before .before .before .before .before .before .args .sheet)) (now (c .before .before .before .before .before .before .before .before .before .before .before .before .before .before .before .args .index)) (now (c .before .before .before .before .before .before .before .before .before .before .before .before .before .before .before .args .table)) (c .before .before .before .before .before .before .before .before .before .before .before .before .before .before .before .args .mark) (c .before .before .before .before .before .before .before .before .before .before .before .before .before .before .before .args .node .0) (c .before .before .before .before .before .before .before .before .before .before .before .before .before .before .before .args .state .0) (c .before .before .before .before .before .before .before .before .before .before .before .before .before .before .before .pre .1) (c .before .before .before .before .before .before .before .before .before .before .before .before .place .result) (placed (now (c .before .before .before .before .before .before .before .before .before .before .before .before .before .before .before .args .sheet)) (now (c .before .before .before .before .before .before .before .before .before .before .before .before .before .before .before .args .index)) (c .before .before .before .before .before .before .before .before .before .before .before .before .before .before .before .pre .1 .prepared) (c .before .before .before .before .before .before .before .before .before .before .before .before .before .before .before .args .mark) (c .before .before .before .before .before .before .before .before .before .before .before .before .before .before .before .args .node .0) (c .before .before .before .before .before .before .before .before .before .before .before .before .before .before .before .args .state .0) (c .before .before .before .before .before .before .before .before .before .before .before .before .place .result) (c .before .before .before .before .before .before .before .before .before .before .before .before .place .ensures)) (c .before .before .before .before .before .before .before .before .before .before .if1 .left) (omega arith) (omega arith) _ _ _ _ (c .before .before .before .before .before .before .follow .ensures) (c .before .before .close3 .ensures .0) (c .before .before .close3 .ensures .1)
+  decide-returns-6 c = answer-modal (now (c .before .before .before .before .before .before .before .before .before .before .before .before .before .before .before .args .sheet)) (now (c .before .before .before .before .before .before .before .before .before .before .before .before .before .before .before .args .index)) (now (c .before .before .before .before .before .before .before .before .before .before .before .before .before .before .before .args .table)) (c .before .before .before .before .before .before .before .before .before .before .before .before .before .before .before .args .mark) (c .before .before .before .before .before .before .before .before .before .before .before .before .before .before .before .args .node .0) (c .before .before .before .before .before .before .before .before .before .before .before .before .before .before .before .args .state .0) (c .before .before .before .before .before .before .before .before .before .before .before .before .before .before .before .pre .1) (c .before .before .before .before .before .before .before .before .before .before .before .before .place .result) (placed (now (c .before .before .before .before .before .before .before .before .before .before .before .before .before .before .before .args .sheet)) (now (c .before .before .before .before .before .before .before .before .before .before .before .before .before .before .before .args .index)) (c .before .before .before .before .before .before .before .before .before .before .before .before .before .before .before .pre .1 .prepared) (c .before .before .before .before .before .before .before .before .before .before .before .before .before .before .before .args .mark) (c .before .before .before .before .before .before .before .before .before .before .before .before .before .before .before .args .node .0) (c .before .before .before .before .before .before .before .before .before .before .before .before .before .before .before .args .state .0) (c .before .before .before .before .before .before .before .before .before .before .before .before .place .result) (c .before .before .before .before .before .before .before .before .before .before .before .before .place .ensures)) (c .before .before .before .before .before .before .before .before .before .before .if1 .left) (omega arith) (omega arith) _ _ _ _ (c .before .before .before .before .before .before .follow .ensures) (c .before .before .fill-cell3 .ensures .0) (c .before .before .fill-cell3 .ensures .1)
 
   decide-same-length-6 : decide-lts.Need-same-length-6 (decide-claims t) (decide-at t) decide.Post
-  decide-same-length-6 c = c .before .before .close4 .kept .0 ∙ c .before .before .before .before .before .before .follow2 .kept .1 .1 .0
+  decide-same-length-6 c = c .before .before .fill-cell4 .kept .0 ∙ c .before .before .before .before .before .before .follow2 .kept .1 .1 .0
 
   decide-returns-7 : decide-lts.Need-returns-7 (decide-claims t) (decide-at t) decide.Post
-  decide-returns-7 c = answer-modal (now (c .before .before .before .before .before .before .before .before .before .before .before .before .before .before .before .args .sheet)) (now (c .before .before .before .before .before .before .before .before .before .before .before .before .before .before .before .args .index)) (now (c .before .before .before .before .before .before .before .before .before .before .before .before .before .before .before .args .table)) (c .before .before .before .before .before .before .before .before .before .before .before .before .before .before .before .args .mark) (c .before .before .before .before .before .before .before .before .before .before .before .before .before .before .before .args .node .0) (c .before .before .before .before .before .before .before .before .before .before .before .before .before .before .before .args .state .0) (c .before .before .before .before .before .before .before .before .before .before .before .before .before .before .before .pre .1) (c .before .before .before .before .before .before .before .before .before .before .before .before .place .result) (placed (now (c .before .before .before .before .before .before .before .before .before .before .before .before .before .before .before .args .sheet)) (now (c .before .before .before .before .before .before .before .before .before .before .before .before .before .before .before .args .index)) (c .before .before .before .before .before .before .before .before .before .before .before .before .before .before .before .pre .1 .prepared) (c .before .before .before .before .before .before .before .before .before .before .before .before .before .before .before .args .mark) (c .before .before .before .before .before .before .before .before .before .before .before .before .before .before .before .args .node .0) (c .before .before .before .before .before .before .before .before .before .before .before .before .before .before .before .args .state .0) (c .before .before .before .before .before .before .before .before .before .before .before .before .place .result) (c .before .before .before .before .before .before .before .before .before .before .before .before .place .ensures)) (c .before .before .before .before .before .before .before .before .before .before .if1 .left) (omega arith) (omega arith) _ _ _ _ (c .before .before .before .before .before .before .follow2 .ensures) (c .before .before .close4 .ensures .0) (c .before .before .close4 .ensures .1)
+  decide-returns-7 c = answer-modal (now (c .before .before .before .before .before .before .before .before .before .before .before .before .before .before .before .args .sheet)) (now (c .before .before .before .before .before .before .before .before .before .before .before .before .before .before .before .args .index)) (now (c .before .before .before .before .before .before .before .before .before .before .before .before .before .before .before .args .table)) (c .before .before .before .before .before .before .before .before .before .before .before .before .before .before .before .args .mark) (c .before .before .before .before .before .before .before .before .before .before .before .before .before .before .before .args .node .0) (c .before .before .before .before .before .before .before .before .before .before .before .before .before .before .before .args .state .0) (c .before .before .before .before .before .before .before .before .before .before .before .before .before .before .before .pre .1) (c .before .before .before .before .before .before .before .before .before .before .before .before .place .result) (placed (now (c .before .before .before .before .before .before .before .before .before .before .before .before .before .before .before .args .sheet)) (now (c .before .before .before .before .before .before .before .before .before .before .before .before .before .before .before .args .index)) (c .before .before .before .before .before .before .before .before .before .before .before .before .before .before .before .pre .1 .prepared) (c .before .before .before .before .before .before .before .before .before .before .before .before .before .before .before .args .mark) (c .before .before .before .before .before .before .before .before .before .before .before .before .before .before .before .args .node .0) (c .before .before .before .before .before .before .before .before .before .before .before .before .before .before .before .args .state .0) (c .before .before .before .before .before .before .before .before .before .before .before .before .place .result) (c .before .before .before .before .before .before .before .before .before .before .before .before .place .ensures)) (c .before .before .before .before .before .before .before .before .before .before .if1 .left) (omega arith) (omega arith) _ _ _ _ (c .before .before .before .before .before .before .follow2 .ensures) (c .before .before .fill-cell4 .ensures .0) (c .before .before .fill-cell4 .ensures .1)
 
   decide-same-length-7 : decide-lts.Need-same-length-7 (decide-claims t) (decide-at t) decide.Post
-  decide-same-length-7 c = c .before .before .close6 .kept .0
+  decide-same-length-7 c = c .before .before .fill-cell6 .kept .0
 
   decide-returns-8 : decide-lts.Need-returns-8 (decide-claims t) (decide-at t) decide.Post
-  decide-returns-8 c = answer-constant (now (c .before .before .before .before .before .before .before .before .before .before .before .before .before .before .before .before .before .args .sheet)) (now (c .before .before .before .before .before .before .before .before .before .before .before .before .before .before .before .before .before .args .index)) (now (c .before .before .before .before .before .before .before .before .before .before .before .before .before .before .before .before .before .args .table)) (c .before .before .before .before .before .before .before .before .before .before .before .before .before .before .before .before .before .args .mark) (c .before .before .before .before .before .before .before .before .before .before .before .before .before .before .before .before .before .args .node .0) (c .before .before .before .before .before .before .before .before .before .before .before .before .before .before .before .before .before .args .state .0) (c .before .before .before .before .before .before .before .before .before .before .before .before .before .before .before .before .before .pre .1) (c .before .before .before .before .before .before .before .before .before .before .before .before .before .before .place .result) (placed (now (c .before .before .before .before .before .before .before .before .before .before .before .before .before .before .before .before .before .args .sheet)) (now (c .before .before .before .before .before .before .before .before .before .before .before .before .before .before .before .before .before .args .index)) (c .before .before .before .before .before .before .before .before .before .before .before .before .before .before .before .before .before .pre .1 .prepared) (c .before .before .before .before .before .before .before .before .before .before .before .before .before .before .before .before .before .args .mark) (c .before .before .before .before .before .before .before .before .before .before .before .before .before .before .before .before .before .args .node .0) (c .before .before .before .before .before .before .before .before .before .before .before .before .before .before .before .before .before .args .state .0) (c .before .before .before .before .before .before .before .before .before .before .before .before .before .before .place .result) (c .before .before .before .before .before .before .before .before .before .before .before .before .before .before .place .ensures)) (c .before .before .before .before .before .before .before .before .before .before .before .before .if1 .left) (c .before .before .before .before .before .before .before .before .before .x-of .result) (c .before .before .before .before .number-of .result) (c .before .before .before .before .before .before .before .before .before .x-of .ensures) (omega arith) (sym (c .before .before .before .before .before .before .before .is-outer .ensures) ∙ c .before .before .before .before .before .before .if2 .left) (c .before .before .before .before .number-of .ensures .0 ∙ ap (λ (k : ℕ). pick (eqb k 8) 1 0) (c .before .before .before .before .before .kind-of2 .ensures ∙ ap (nodeKind (ruleBody (now (c .before .before .before .before .before .before .before .before .before .before .before .before .before .before .before .before .before .args .sheet)))) (binder-found (now (c .before .before .before .before .before .before .before .before .before .before .before .before .before .before .before .before .before .args .sheet)) (now (c .before .before .before .before .before .before .before .before .before .before .before .before .before .before .before .before .before .args .index)) (now (c .before .before .before .before .before .before .before .before .before .before .before .before .before .before .before .before .before .args .table)) (c .before .before .before .before .before .before .before .before .before .before .before .before .before .before .before .before .before .args .mark) (c .before .before .before .before .before .before .before .before .before .before .before .before .before .before .before .before .before .args .node .0) (c .before .before .before .before .before .before .before .before .before .before .before .before .before .before .before .before .before .args .state .0) (c .before .before .before .before .before .before .before .before .before .before .before .before .before .before .before .before .before .pre .1) (omega arith) (c .before .before .before .before .before .before .before .before .before .x-of .result) (c .before .before .before .before .before .before .before .before .binder-of .result .0) (c .before .before .before .before .before .before .before .before .before .x-of .ensures) (c .before .before .before .before .before .before .before .before .binder-of .ensures)))) _ _ (c .before .before .close6 .ensures .0) (c .before .before .close6 .ensures .1)
+  decide-returns-8 c = answer-constant (now (c .before .before .before .before .before .before .before .before .before .before .before .before .before .before .before .before .before .args .sheet)) (now (c .before .before .before .before .before .before .before .before .before .before .before .before .before .before .before .before .before .args .index)) (now (c .before .before .before .before .before .before .before .before .before .before .before .before .before .before .before .before .before .args .table)) (c .before .before .before .before .before .before .before .before .before .before .before .before .before .before .before .before .before .args .mark) (c .before .before .before .before .before .before .before .before .before .before .before .before .before .before .before .before .before .args .node .0) (c .before .before .before .before .before .before .before .before .before .before .before .before .before .before .before .before .before .args .state .0) (c .before .before .before .before .before .before .before .before .before .before .before .before .before .before .before .before .before .pre .1) (c .before .before .before .before .before .before .before .before .before .before .before .before .before .before .place .result) (placed (now (c .before .before .before .before .before .before .before .before .before .before .before .before .before .before .before .before .before .args .sheet)) (now (c .before .before .before .before .before .before .before .before .before .before .before .before .before .before .before .before .before .args .index)) (c .before .before .before .before .before .before .before .before .before .before .before .before .before .before .before .before .before .pre .1 .prepared) (c .before .before .before .before .before .before .before .before .before .before .before .before .before .before .before .before .before .args .mark) (c .before .before .before .before .before .before .before .before .before .before .before .before .before .before .before .before .before .args .node .0) (c .before .before .before .before .before .before .before .before .before .before .before .before .before .before .before .before .before .args .state .0) (c .before .before .before .before .before .before .before .before .before .before .before .before .before .before .place .result) (c .before .before .before .before .before .before .before .before .before .before .before .before .before .before .place .ensures)) (c .before .before .before .before .before .before .before .before .before .before .before .before .if1 .left) (c .before .before .before .before .before .before .before .before .before .x-of .result) (c .before .before .before .before .number-of .result) (c .before .before .before .before .before .before .before .before .before .x-of .ensures) (omega arith) (sym (c .before .before .before .before .before .before .before .is-outer .ensures) ∙ c .before .before .before .before .before .before .if2 .left) (c .before .before .before .before .number-of .ensures .0 ∙ ap (λ (k : ℕ). pick (eqb k 8) 1 0) (c .before .before .before .before .before .kind-of2 .ensures ∙ ap (nodeKind (ruleBody (now (c .before .before .before .before .before .before .before .before .before .before .before .before .before .before .before .before .before .args .sheet)))) (binder-found (now (c .before .before .before .before .before .before .before .before .before .before .before .before .before .before .before .before .before .args .sheet)) (now (c .before .before .before .before .before .before .before .before .before .before .before .before .before .before .before .before .before .args .index)) (now (c .before .before .before .before .before .before .before .before .before .before .before .before .before .before .before .before .before .args .table)) (c .before .before .before .before .before .before .before .before .before .before .before .before .before .before .before .before .before .args .mark) (c .before .before .before .before .before .before .before .before .before .before .before .before .before .before .before .before .before .args .node .0) (c .before .before .before .before .before .before .before .before .before .before .before .before .before .before .before .before .before .args .state .0) (c .before .before .before .before .before .before .before .before .before .before .before .before .before .before .before .before .before .pre .1) (omega arith) (c .before .before .before .before .before .before .before .before .before .x-of .result) (c .before .before .before .before .before .before .before .before .binder-of .result .0) (c .before .before .before .before .before .before .before .before .before .x-of .ensures) (c .before .before .before .before .before .before .before .before .binder-of .ensures)))) _ _ (c .before .before .fill-cell6 .ensures .0) (c .before .before .fill-cell6 .ensures .1)
 
   decide-same-length-8 : decide-lts.Need-same-length-8 (decide-claims t) (decide-at t) decide.Post
-  decide-same-length-8 c = c .before .before .close8 .kept .0 ∙ (c .before .before .before .before .before .before .before .decide3 .kept .1 .1 .0 ∙ c .before .before .before .before .before .before .before .before .before .before .before .before .before .before .decide2 .kept .1 .1 .0)
+  decide-same-length-8 c = c .before .before .fill-cell8 .kept .0 ∙ (c .before .before .before .before .before .before .before .decide3 .kept .1 .1 .0 ∙ c .before .before .before .before .before .before .before .before .before .before .before .before .before .before .decide2 .kept .1 .1 .0)
 
   decide-returns-9 : decide-lts.Need-returns-9 (decide-claims t) (decide-at t) decide.Post
-  decide-returns-9 c = answer-second (now (c .before .before .before .before .before .before .before .before .before .before .before .before .before .before .before .before .before .before .before .before .before .before .before .before .before .args .sheet)) (now (c .before .before .before .before .before .before .before .before .before .before .before .before .before .before .before .before .before .before .before .before .before .before .before .before .before .args .index)) (now (c .before .before .before .before .before .before .before .before .before .before .before .before .before .before .before .before .before .before .before .before .before .before .before .before .before .args .table)) (c .before .before .before .before .before .before .before .before .before .before .before .before .before .before .before .before .before .before .before .before .before .before .before .before .before .args .mark) (c .before .before .before .before .before .before .before .before .before .before .before .before .before .before .before .before .before .before .before .before .before .before .before .before .before .args .node .0) (c .before .before .before .before .before .before .before .before .before .before .before .before .before .before .before .before .before .before .before .before .before .before .before .before .before .args .state .0) (c .before .before .before .before .before .before .before .before .before .before .before .before .before .before .before .before .before .before .before .before .before .before .before .before .before .pre .1) (c .before .before .before .before .before .before .before .before .before .before .before .before .before .before .before .before .before .before .before .before .before .before .place .result) (placed (now (c .before .before .before .before .before .before .before .before .before .before .before .before .before .before .before .before .before .before .before .before .before .before .before .before .before .args .sheet)) (now (c .before .before .before .before .before .before .before .before .before .before .before .before .before .before .before .before .before .before .before .before .before .before .before .before .before .args .index)) (c .before .before .before .before .before .before .before .before .before .before .before .before .before .before .before .before .before .before .before .before .before .before .before .before .before .pre .1 .prepared) (c .before .before .before .before .before .before .before .before .before .before .before .before .before .before .before .before .before .before .before .before .before .before .before .before .before .args .mark) (c .before .before .before .before .before .before .before .before .before .before .before .before .before .before .before .before .before .before .before .before .before .before .before .before .before .args .node .0) (c .before .before .before .before .before .before .before .before .before .before .before .before .before .before .before .before .before .before .before .before .before .before .before .before .before .args .state .0) (c .before .before .before .before .before .before .before .before .before .before .before .before .before .before .before .before .before .before .before .before .before .before .place .result) (c .before .before .before .before .before .before .before .before .before .before .before .before .before .before .before .before .before .before .before .before .before .before .place .ensures)) (c .before .before .before .before .before .before .before .before .before .before .before .before .before .before .before .before .before .before .before .before .if1 .left) (c .before .before .before .before .before .before .before .before .before .before .before .before .before .before .before .before .x-of2 .result) (c .before .before .before .before .before .before .before .before .before .before .before .before .before .before .before .before .x-of2 .ensures) (omega (arith, c .before .before .before .before .before .before .before .before .before .before .before .before .before .before .before .before .before .before .before .kind-of .ensures, c .before .before .before .before .before .before .before .before .before .before .before .before .before .before .before .before .before .if3 .taken, c .before .before .before .before .before .before .before .before .before .before .before .before .before .before .before .before .before .before .match .rest)) (omega (arith, c .before .before .before .before .before .before .before .before .before .before .before .before .before .before .before .before .before .before .before .kind-of .ensures, c .before .before .before .before .before .before .before .before .before .before .before .before .before .before .before .before .before .if3 .taken, c .before .before .before .before .before .before .before .before .before .before .before .before .before .before .before .before .before .before .match .rest)) (c .before .before .before .before .before .before .before .before .before .before .before .before .before .before .decide2 .result) _ (c .before .before .before .before .before .before .before .before .before .before .before .before .before .before .decide2 .ensures) (ap (λ (k : ℕ). Bool·beq (verdictIn (c .before .before .before .before .before .before .before .before .before .before .before .before .before .before .decide2 .result)) (eqb k 2)) (sym (c .before .before .before .before .before .before .before .before .before .before .before .before .before .before .before .before .before .before .before .kind-of .ensures)) ∙ (sym (c .before .before .before .before .before .before .before .before .before .before .before .decides .ensures) ∙ c .before .before .before .before .before .before .before .before .before .before .if4 .left)) (c .before .before .before .before .before .before .before .before .before .y-of .result) (c .before .before .before .before .before .before .before .before .before .y-of .ensures) _ _ _ _ _ (c .before .before .before .before .before .before .before .decide3 .ensures) (c .before .before .before .before .both .ensures) (c .before .before .close8 .ensures .0) (c .before .before .close8 .ensures .1)
+  decide-returns-9 c = answer-second (now (c .before .before .before .before .before .before .before .before .before .before .before .before .before .before .before .before .before .before .before .before .before .before .before .before .before .args .sheet)) (now (c .before .before .before .before .before .before .before .before .before .before .before .before .before .before .before .before .before .before .before .before .before .before .before .before .before .args .index)) (now (c .before .before .before .before .before .before .before .before .before .before .before .before .before .before .before .before .before .before .before .before .before .before .before .before .before .args .table)) (c .before .before .before .before .before .before .before .before .before .before .before .before .before .before .before .before .before .before .before .before .before .before .before .before .before .args .mark) (c .before .before .before .before .before .before .before .before .before .before .before .before .before .before .before .before .before .before .before .before .before .before .before .before .before .args .node .0) (c .before .before .before .before .before .before .before .before .before .before .before .before .before .before .before .before .before .before .before .before .before .before .before .before .before .args .state .0) (c .before .before .before .before .before .before .before .before .before .before .before .before .before .before .before .before .before .before .before .before .before .before .before .before .before .pre .1) (c .before .before .before .before .before .before .before .before .before .before .before .before .before .before .before .before .before .before .before .before .before .before .place .result) (placed (now (c .before .before .before .before .before .before .before .before .before .before .before .before .before .before .before .before .before .before .before .before .before .before .before .before .before .args .sheet)) (now (c .before .before .before .before .before .before .before .before .before .before .before .before .before .before .before .before .before .before .before .before .before .before .before .before .before .args .index)) (c .before .before .before .before .before .before .before .before .before .before .before .before .before .before .before .before .before .before .before .before .before .before .before .before .before .pre .1 .prepared) (c .before .before .before .before .before .before .before .before .before .before .before .before .before .before .before .before .before .before .before .before .before .before .before .before .before .args .mark) (c .before .before .before .before .before .before .before .before .before .before .before .before .before .before .before .before .before .before .before .before .before .before .before .before .before .args .node .0) (c .before .before .before .before .before .before .before .before .before .before .before .before .before .before .before .before .before .before .before .before .before .before .before .before .before .args .state .0) (c .before .before .before .before .before .before .before .before .before .before .before .before .before .before .before .before .before .before .before .before .before .before .place .result) (c .before .before .before .before .before .before .before .before .before .before .before .before .before .before .before .before .before .before .before .before .before .before .place .ensures)) (c .before .before .before .before .before .before .before .before .before .before .before .before .before .before .before .before .before .before .before .before .if1 .left) (c .before .before .before .before .before .before .before .before .before .before .before .before .before .before .before .before .x-of2 .result) (c .before .before .before .before .before .before .before .before .before .before .before .before .before .before .before .before .x-of2 .ensures) (omega (arith, c .before .before .before .before .before .before .before .before .before .before .before .before .before .before .before .before .before .before .before .kind-of .ensures, c .before .before .before .before .before .before .before .before .before .before .before .before .before .before .before .before .before .if3 .taken, c .before .before .before .before .before .before .before .before .before .before .before .before .before .before .before .before .before .before .match .rest)) (omega (arith, c .before .before .before .before .before .before .before .before .before .before .before .before .before .before .before .before .before .before .before .kind-of .ensures, c .before .before .before .before .before .before .before .before .before .before .before .before .before .before .before .before .before .if3 .taken, c .before .before .before .before .before .before .before .before .before .before .before .before .before .before .before .before .before .before .match .rest)) (c .before .before .before .before .before .before .before .before .before .before .before .before .before .before .decide2 .result) _ (c .before .before .before .before .before .before .before .before .before .before .before .before .before .before .decide2 .ensures) (ap (λ (k : ℕ). Bool·beq (verdictIn (c .before .before .before .before .before .before .before .before .before .before .before .before .before .before .decide2 .result)) (eqb k 2)) (sym (c .before .before .before .before .before .before .before .before .before .before .before .before .before .before .before .before .before .before .before .kind-of .ensures)) ∙ (sym (c .before .before .before .before .before .before .before .before .before .before .before .decides .ensures) ∙ c .before .before .before .before .before .before .before .before .before .before .if4 .left)) (c .before .before .before .before .before .before .before .before .before .y-of .result) (c .before .before .before .before .before .before .before .before .before .y-of .ensures) _ _ _ _ _ (c .before .before .before .before .before .before .before .decide3 .ensures) (c .before .before .before .before .both .ensures) (c .before .before .fill-cell8 .ensures .0) (c .before .before .fill-cell8 .ensures .1)
 
   decide-same-length-9 : decide-lts.Need-same-length-9 (decide-claims t) (decide-at t) decide.Post
-  decide-same-length-9 c = c .before .before .close9 .kept .0 ∙ c .before .before .before .before .before .before .decide4 .kept .1 .1 .0
+  decide-same-length-9 c = c .before .before .fill-cell9 .kept .0 ∙ c .before .before .before .before .before .before .decide4 .kept .1 .1 .0
 
   decide-returns-10 : decide-lts.Need-returns-10 (decide-claims t) (decide-at t) decide.Post
-  decide-returns-10 c = answer-body (now (c .before .before .before .before .before .before .before .before .before .before .before .before .before .before .before .before .before .before .before .before .args .sheet)) (now (c .before .before .before .before .before .before .before .before .before .before .before .before .before .before .before .before .before .before .before .before .args .index)) (now (c .before .before .before .before .before .before .before .before .before .before .before .before .before .before .before .before .before .before .before .before .args .table)) (c .before .before .before .before .before .before .before .before .before .before .before .before .before .before .before .before .before .before .before .before .args .mark) (c .before .before .before .before .before .before .before .before .before .before .before .before .before .before .before .before .before .before .before .before .args .node .0) (c .before .before .before .before .before .before .before .before .before .before .before .before .before .before .before .before .before .before .before .before .args .state .0) (c .before .before .before .before .before .before .before .before .before .before .before .before .before .before .before .before .before .before .before .before .pre .1) (c .before .before .before .before .before .before .before .before .before .before .before .before .before .before .before .before .before .place .result) (placed (now (c .before .before .before .before .before .before .before .before .before .before .before .before .before .before .before .before .before .before .before .before .args .sheet)) (now (c .before .before .before .before .before .before .before .before .before .before .before .before .before .before .before .before .before .before .before .before .args .index)) (c .before .before .before .before .before .before .before .before .before .before .before .before .before .before .before .before .before .before .before .before .pre .1 .prepared) (c .before .before .before .before .before .before .before .before .before .before .before .before .before .before .before .before .before .before .before .before .args .mark) (c .before .before .before .before .before .before .before .before .before .before .before .before .before .before .before .before .before .before .before .before .args .node .0) (c .before .before .before .before .before .before .before .before .before .before .before .before .before .before .before .before .before .before .before .before .args .state .0) (c .before .before .before .before .before .before .before .before .before .before .before .before .before .before .before .before .before .place .result) (c .before .before .before .before .before .before .before .before .before .before .before .before .before .before .before .before .before .place .ensures)) (c .before .before .before .before .before .before .before .before .before .before .before .before .before .before .before .if1 .left) (c .before .before .before .before .before .before .before .opening .result) (c .before .before .before .before .before .before .before .before .before .y-of2 .result) (c .before .before .before .before .before .before .before .opening .ensures ∙ ap (λ (k : ℕ). opened k (c .before .before .before .before .before .before .before .before .before .before .before .before .before .before .before .before .before .before .before .before .args .mark)) (c .before .before .before .before .before .before .before .before .before .before .x-of3 .ensures)) (c .before .before .before .before .before .before .before .before .before .y-of2 .ensures) (omega arith) (omega arith) _ _ _ _ (c .before .before .before .before .before .before .decide4 .ensures) (c .before .before .close9 .ensures .0) (c .before .before .close9 .ensures .1)
+  decide-returns-10 c = answer-body (now (c .before .before .before .before .before .before .before .before .before .before .before .before .before .before .before .before .before .before .before .before .args .sheet)) (now (c .before .before .before .before .before .before .before .before .before .before .before .before .before .before .before .before .before .before .before .before .args .index)) (now (c .before .before .before .before .before .before .before .before .before .before .before .before .before .before .before .before .before .before .before .before .args .table)) (c .before .before .before .before .before .before .before .before .before .before .before .before .before .before .before .before .before .before .before .before .args .mark) (c .before .before .before .before .before .before .before .before .before .before .before .before .before .before .before .before .before .before .before .before .args .node .0) (c .before .before .before .before .before .before .before .before .before .before .before .before .before .before .before .before .before .before .before .before .args .state .0) (c .before .before .before .before .before .before .before .before .before .before .before .before .before .before .before .before .before .before .before .before .pre .1) (c .before .before .before .before .before .before .before .before .before .before .before .before .before .before .before .before .before .place .result) (placed (now (c .before .before .before .before .before .before .before .before .before .before .before .before .before .before .before .before .before .before .before .before .args .sheet)) (now (c .before .before .before .before .before .before .before .before .before .before .before .before .before .before .before .before .before .before .before .before .args .index)) (c .before .before .before .before .before .before .before .before .before .before .before .before .before .before .before .before .before .before .before .before .pre .1 .prepared) (c .before .before .before .before .before .before .before .before .before .before .before .before .before .before .before .before .before .before .before .before .args .mark) (c .before .before .before .before .before .before .before .before .before .before .before .before .before .before .before .before .before .before .before .before .args .node .0) (c .before .before .before .before .before .before .before .before .before .before .before .before .before .before .before .before .before .before .before .before .args .state .0) (c .before .before .before .before .before .before .before .before .before .before .before .before .before .before .before .before .before .place .result) (c .before .before .before .before .before .before .before .before .before .before .before .before .before .before .before .before .before .place .ensures)) (c .before .before .before .before .before .before .before .before .before .before .before .before .before .before .before .if1 .left) (c .before .before .before .before .before .before .before .before .opening .result) (c .before .before .before .before .before .before .before .before .before .y-of2 .result) (c .before .before .before .before .before .before .before .before .opening .ensures ∙ ap (λ (k : ℕ). opened k (c .before .before .before .before .before .before .before .before .before .before .before .before .before .before .before .before .before .before .before .before .args .mark)) (c .before .before .before .before .before .before .before .before .before .before .x-of3 .ensures)) (c .before .before .before .before .before .before .before .before .before .y-of2 .ensures) (omega arith) (omega arith) _ _ _ _ (c .before .before .before .before .before .before .decide4 .ensures) (c .before .before .fill-cell9 .ensures .0) (c .before .before .fill-cell9 .ensures .1)
 
   decide-same-length-10 : decide-lts.Need-same-length-10 (decide-claims t) (decide-at t) decide.Post
-  decide-same-length-10 c = c .before .before .close10 .kept .0
+  decide-same-length-10 c = c .before .before .fill-cell10 .kept .0
 
   decide-returns-11 : decide-lts.Need-returns-11 (decide-claims t) (decide-at t) decide.Post
-  decide-returns-11 c = answer-unknown (now (c .before .before .before .before .before .before .before .before .before .before .before .before .before .args .sheet)) (now (c .before .before .before .before .before .before .before .before .before .before .before .before .before .args .index)) (now (c .before .before .before .before .before .before .before .before .before .before .before .before .before .args .table)) (c .before .before .before .before .before .before .before .before .before .before .before .before .before .args .mark) (c .before .before .before .before .before .before .before .before .before .before .before .before .before .args .node .0) (c .before .before .before .before .before .before .before .before .before .before .before .before .before .args .state .0) (c .before .before .before .before .before .before .before .before .before .before .before .before .before .pre .1) (c .before .before .before .before .before .before .before .before .before .before .place .result) (placed (now (c .before .before .before .before .before .before .before .before .before .before .before .before .before .args .sheet)) (now (c .before .before .before .before .before .before .before .before .before .before .before .before .before .args .index)) (c .before .before .before .before .before .before .before .before .before .before .before .before .before .pre .1 .prepared) (c .before .before .before .before .before .before .before .before .before .before .before .before .before .args .mark) (c .before .before .before .before .before .before .before .before .before .before .before .before .before .args .node .0) (c .before .before .before .before .before .before .before .before .before .before .before .before .before .args .state .0) (c .before .before .before .before .before .before .before .before .before .before .place .result) (c .before .before .before .before .before .before .before .before .before .before .place .ensures)) (c .before .before .before .before .before .before .before .before .if1 .left) (omega arith) _ _ (c .before .before .close10 .ensures .0) (c .before .before .close10 .ensures .1)
+  decide-returns-11 c = answer-unknown (now (c .before .before .before .before .before .before .before .before .before .before .before .before .before .args .sheet)) (now (c .before .before .before .before .before .before .before .before .before .before .before .before .before .args .index)) (now (c .before .before .before .before .before .before .before .before .before .before .before .before .before .args .table)) (c .before .before .before .before .before .before .before .before .before .before .before .before .before .args .mark) (c .before .before .before .before .before .before .before .before .before .before .before .before .before .args .node .0) (c .before .before .before .before .before .before .before .before .before .before .before .before .before .args .state .0) (c .before .before .before .before .before .before .before .before .before .before .before .before .before .pre .1) (c .before .before .before .before .before .before .before .before .before .before .place .result) (placed (now (c .before .before .before .before .before .before .before .before .before .before .before .before .before .args .sheet)) (now (c .before .before .before .before .before .before .before .before .before .before .before .before .before .args .index)) (c .before .before .before .before .before .before .before .before .before .before .before .before .before .pre .1 .prepared) (c .before .before .before .before .before .before .before .before .before .before .before .before .before .args .mark) (c .before .before .before .before .before .before .before .before .before .before .before .before .before .args .node .0) (c .before .before .before .before .before .before .before .before .before .before .before .before .before .args .state .0) (c .before .before .before .before .before .before .before .before .before .before .place .result) (c .before .before .before .before .before .before .before .before .before .before .place .ensures)) (c .before .before .before .before .before .before .before .before .if1 .left) (omega arith) _ _ (c .before .before .fill-cell10 .ensures .0) (c .before .before .fill-cell10 .ensures .1)
 
 -- what the functions that follow calls ask and tell
 abbrev follow-claims : ℕ → follow-lts.Claims
-follow-claims t = (x-of-reads.Asked, x-of-reads.Learnt, y-of-reads.Asked, y-of-reads.Learnt, first-of-reads.Asked, first-of-reads.Learnt, label-of-reads.Asked, label-of-reads.Learnt, mask-of-reads.Asked, mask-of-reads.Learnt, meets-reads.Asked, meets-reads.Learnt, target-of-reads.Asked, target-of-reads.Learnt, decide-below t, decide.Post, decides-reads.Asked, decides-reads.Learnt, both-reads.Asked, both-reads.Learnt, number-of-reads.Asked, number-of-reads.Learnt)
+follow-claims t = (x-of-reads.Asked, x-of-reads.Learnt, y-of-reads.Asked, y-of-reads.Learnt, end-of-reads.Asked, end-of-reads.Learnt, first-of-reads.Asked, first-of-reads.Learnt, label-of-reads.Asked, label-of-reads.Learnt, mask-of-reads.Asked, mask-of-reads.Learnt, meets-reads.Asked, meets-reads.Learnt, target-of-reads.Asked, target-of-reads.Learnt, decide-below t, decide.Post, decides-reads.Asked, decides-reads.Learnt, both-reads.Asked, both-reads.Learnt, number-of-reads.Asked, number-of-reads.Learnt)
 
 abbrev follow-Inv-loop : follow-lts.InvT-loop
 follow-Inv-loop sheet index table₀ or n entry child from end i₀ sum₀ table i sum = (f : Following sheet index table₀ n from) × Walked sheet index table₀ n from f i₀ end i sum table
@@ -248,23 +250,17 @@ module _ (t : ℕ) where
   follow-y-of-requires : follow-lts.Need-y-of-requires (follow-claims t) (follow-at t) follow.Post follow-Inv-loop follow-μ-loop
   follow-y-of-requires c κs = record { accepted = c .before .before .before .pre .1 .0 .accepted; offset-is = c .before .before .before .pre .1 .0 .prepared .offset-is; node-below = c .before .before .before .pre .1 .0 .node-below }
 
-  follow-cast-from : follow-lts.Need-cast-from (follow-claims t) (follow-at t) follow.Post follow-Inv-loop follow-μ-loop
-  follow-cast-from c = omega arith
-
-  follow-add-first-of : follow-lts.Need-add-first-of (follow-claims t) (follow-at t) follow.Post follow-Inv-loop follow-μ-loop
-  follow-add-first-of c = omega (arith, c .before .before .before .before .before .pre .1 .0 .state-below, few-states (now (c .before .before .before .before .before .args .sheet)) (c .before .before .before .before .before .pre .1 .0 .accepted))
+  follow-end-of-requires : follow-lts.Need-end-of-requires (follow-claims t) (follow-at t) follow.Post follow-Inv-loop follow-μ-loop
+  follow-end-of-requires c κs = omega (arith, c .before .before .before .before .pre .1 .0 .state-below, few-states (now (c .before .before .before .before .args .sheet)) (c .before .before .before .before .pre .1 .0 .accepted))
 
   follow-first-of-requires : follow-lts.Need-first-of-requires (follow-claims t) (follow-at t) follow.Post follow-Inv-loop follow-μ-loop
   follow-first-of-requires c κs = omega (arith, c .before .before .before .before .before .pre .1 .0 .state-below, few-states (now (c .before .before .before .before .before .args .sheet)) (c .before .before .before .before .before .pre .1 .0 .accepted))
 
-  follow-first-of-requires-2 : follow-lts.Need-first-of-requires-2 (follow-claims t) (follow-at t) follow.Post follow-Inv-loop follow-μ-loop
-  follow-first-of-requires-2 c κs = omega (arith, c .before .before .before .before .before .before .pre .1 .0 .state-below, few-states (now (c .before .before .before .before .before .before .args .sheet)) (c .before .before .before .before .before .before .pre .1 .0 .accepted))
-
   follow-loop-holds : follow-lts.Need-loop-holds (follow-claims t) (follow-at t) follow.Post follow-Inv-loop follow-μ-loop
-  follow-loop-holds c = (c .before .before .before .before .before .before .before .pre .1 .0, start (now (c .before .before .before .before .before .before .before .args .sheet)) (now (c .before .before .before .before .before .before .before .args .index)) (now (c .before .before .before .before .before .before .before .args .table)) (c .before .before .before .before .before .before .before .args .node .0) (c .before .before .before .before .before .before .before .args .state .0) (c .before .before .before .before .before .before .before .pre .1 .0) (c .first-of2 .result) (c .before .first-of .result) (c .first-of2 .ensures ∙ c .before .before .before .before .before .before .before .pre .1 .0 .prepared .firsts-are (c .before .before .before .before .before .before .before .args .state .0) (omega (arith, c .before .before .before .before .before .before .before .pre .1 .0 .state-below))) (c .before .first-of .ensures ∙ c .before .before .before .before .before .before .before .pre .1 .0 .prepared .firsts-are (c .before .before .before .before .before .before .before .args .state .0 + 1) (omega (arith, c .before .before .before .before .before .before .before .pre .1 .0 .state-below))))
+  follow-loop-holds c = (c .before .before .before .before .before .before .pre .1 .0, start (now (c .before .before .before .before .before .before .args .sheet)) (now (c .before .before .before .before .before .before .args .index)) (now (c .before .before .before .before .before .before .args .table)) (c .before .before .before .before .before .before .args .node .0) (c .before .before .before .before .before .before .args .state .0) (c .before .before .before .before .before .before .pre .1 .0) (c .first-of .result) (c .before .end-of .result) (c .first-of .ensures ∙ c .before .before .before .before .before .before .pre .1 .0 .prepared .firsts-are (c .before .before .before .before .before .before .args .state .0) (omega (arith, c .before .before .before .before .before .before .pre .1 .0 .state-below))) (c .before .end-of .ensures ∙ end-place _ (now (c .before .before .before .before .before .before .args .index)) (c .before .before .before .before .before .before .pre .1 .0 .prepared .firsts-are) _ (c .before .before .before .before .before .before .pre .1 .0 .state-below)))
 
   follow-label-of-requires : follow-lts.Need-label-of-requires (follow-claims t) (follow-at t) follow.Post follow-Inv-loop follow-μ-loop
-  follow-label-of-requires c κs = record { accepted = c .before .before .before .before .before .before .before .before .before .pre .1 .0 .accepted; among = transition-among (now (c .before .before .before .before .before .before .before .before .before .args .sheet)) (now (c .before .before .before .before .before .before .before .before .before .args .index)) (now (c .before .before .before .before .before .before .before .before .before .args .table)) (c .before .before .before .before .before .before .before .before .before .args .node .0) (c .before .before .before .before .before .before .before .before .before .args .state .0) (c .before .loop .inv .0) _ _ _ _ _ (c .before .loop .inv .1) (c .loop-test .taken) }
+  follow-label-of-requires c κs = record { accepted = c .before .before .before .before .before .before .before .before .pre .1 .0 .accepted; among = transition-among (now (c .before .before .before .before .before .before .before .before .args .sheet)) (now (c .before .before .before .before .before .before .before .before .args .index)) (now (c .before .before .before .before .before .before .before .before .args .table)) (c .before .before .before .before .before .before .before .before .args .node .0) (c .before .before .before .before .before .before .before .before .args .state .0) (c .before .loop .inv .0) _ _ _ _ _ (c .before .loop .inv .1) (c .loop-test .taken) }
 
   follow-mask-of-requires : follow-lts.Need-mask-of-requires (follow-claims t) (follow-at t) follow.Post follow-Inv-loop follow-μ-loop
   follow-mask-of-requires c κs = search needs
@@ -273,25 +269,25 @@ module _ (t : ℕ) where
   follow-meets-requires c κs = search needs
 
   follow-target-of-requires : follow-lts.Need-target-of-requires (follow-claims t) (follow-at t) follow.Post follow-Inv-loop follow-μ-loop
-  follow-target-of-requires c κs = record { accepted = c .before .before .before .before .before .before .before .before .before .before .before .before .before .before .pre .1 .0 .accepted; among = transition-among (now (c .before .before .before .before .before .before .before .before .before .before .before .before .before .before .args .sheet)) (now (c .before .before .before .before .before .before .before .before .before .before .before .before .before .before .args .index)) (now (c .before .before .before .before .before .before .before .before .before .before .before .before .before .before .args .table)) (c .before .before .before .before .before .before .before .before .before .before .before .before .before .before .args .node .0) (c .before .before .before .before .before .before .before .before .before .before .before .before .before .before .args .state .0) (c .before .before .before .before .before .before .loop .inv .0) _ _ _ _ _ (c .before .before .before .before .before .before .loop .inv .1) (c .before .before .before .before .before .loop-test .taken) }
+  follow-target-of-requires c κs = record { accepted = c .before .before .before .before .before .before .before .before .before .before .before .before .before .pre .1 .0 .accepted; among = transition-among (now (c .before .before .before .before .before .before .before .before .before .before .before .before .before .args .sheet)) (now (c .before .before .before .before .before .before .before .before .before .before .before .before .before .args .index)) (now (c .before .before .before .before .before .before .before .before .before .before .before .before .before .args .table)) (c .before .before .before .before .before .before .before .before .before .before .before .before .before .args .node .0) (c .before .before .before .before .before .before .before .before .before .before .before .before .before .args .state .0) (c .before .before .before .before .before .before .loop .inv .0) _ _ _ _ _ (c .before .before .before .before .before .before .loop .inv .1) (c .before .before .before .before .before .loop-test .taken) }
 
   follow-decide-requires : follow-lts.Need-decide-requires (follow-claims t) (follow-at t) follow.Post follow-Inv-loop follow-μ-loop
-  follow-decide-requires c κs = let w = call-child (now (c .before .before .before .before .before .before .before .before .before .before .before .before .before .before .before .args .sheet)) (now (c .before .before .before .before .before .before .before .before .before .before .before .before .before .before .before .args .index)) (now (c .before .before .before .before .before .before .before .before .before .before .before .before .before .before .before .args .table)) (c .before .before .before .before .before .before .before .before .before .before .before .before .before .before .before .args .node .0) (c .before .before .before .before .before .before .before .before .before .before .before .before .before .before .before .args .state .0) (c .before .before .before .before .before .before .before .loop .inv .0) _ _ _ _ _ (c .before .before .before .before .before .before .before .loop .inv .1) (c .before .before .before .before .before .before .loop-test .taken) (c .before .before .before .before .before .before .before .before .before .before .before .y-of .result) (c .target-of .result .0) (c .before .before .before .before .before .before .before .before .before .before .before .y-of .ensures) (c .target-of .ensures) in (omega (arith, w .0, c .before .before .before .before .before .before .before .before .before .before .before .before .before .before .before .pre .0), w .1)
+  follow-decide-requires c κs = let w = call-child (now (c .before .before .before .before .before .before .before .before .before .before .before .before .before .before .args .sheet)) (now (c .before .before .before .before .before .before .before .before .before .before .before .before .before .before .args .index)) (now (c .before .before .before .before .before .before .before .before .before .before .before .before .before .before .args .table)) (c .before .before .before .before .before .before .before .before .before .before .before .before .before .before .args .node .0) (c .before .before .before .before .before .before .before .before .before .before .before .before .before .before .args .state .0) (c .before .before .before .before .before .before .before .loop .inv .0) _ _ _ _ _ (c .before .before .before .before .before .before .before .loop .inv .1) (c .before .before .before .before .before .before .loop-test .taken) (c .before .before .before .before .before .before .before .before .before .before .y-of .result) (c .target-of .result .0) (c .before .before .before .before .before .before .before .before .before .before .y-of .ensures) (c .target-of .ensures) in (omega (arith, w .0, c .before .before .before .before .before .before .before .before .before .before .before .before .before .before .pre .0), w .1)
 
   follow-decides-requires : follow-lts.Need-decides-requires (follow-claims t) (follow-at t) follow.Post follow-Inv-loop follow-μ-loop
   follow-decides-requires c κs = search needs
 
   follow-both-requires : follow-lts.Need-both-requires (follow-claims t) (follow-at t) follow.Post follow-Inv-loop follow-μ-loop
-  follow-both-requires c κs = (sum-small (now (c .before .before .before .before .before .before .before .before .before .before .before .before .before .before .before .before .before .before .before .before .args .sheet)) (now (c .before .before .before .before .before .before .before .before .before .before .before .before .before .before .before .before .before .before .before .before .args .index)) (now (c .before .before .before .before .before .before .before .before .before .before .before .before .before .before .before .before .before .before .before .before .args .table)) (c .before .before .before .before .before .before .before .before .before .before .before .before .before .before .before .before .before .before .before .before .args .node .0) (c .before .before .before .before .before .before .before .before .before .before .before .before .before .before .before .before .before .before .before .before .args .state .0) (c .before .before .before .before .before .before .before .before .before .before .before .before .loop .inv .0) _ _ _ _ _ (c .before .before .before .before .before .before .before .before .before .before .before .before .loop .inv .1), omega (arith, c .before .before .before .before .decide .ensures .small))
+  follow-both-requires c κs = (sum-small (now (c .before .before .before .before .before .before .before .before .before .before .before .before .before .before .before .before .before .before .before .args .sheet)) (now (c .before .before .before .before .before .before .before .before .before .before .before .before .before .before .before .before .before .before .before .args .index)) (now (c .before .before .before .before .before .before .before .before .before .before .before .before .before .before .before .before .before .before .before .args .table)) (c .before .before .before .before .before .before .before .before .before .before .before .before .before .before .before .before .before .before .before .args .node .0) (c .before .before .before .before .before .before .before .before .before .before .before .before .before .before .before .before .before .before .before .args .state .0) (c .before .before .before .before .before .before .before .before .before .before .before .before .loop .inv .0) _ _ _ _ _ (c .before .before .before .before .before .before .before .before .before .before .before .before .loop .inv .1), omega (arith, c .before .before .before .before .decide .ensures .small))
 
   follow-same-length : follow-lts.Need-same-length (follow-claims t) (follow-at t) follow.Post follow-Inv-loop follow-μ-loop
   follow-same-length c = c .before .before .before .before .before .decide .kept .1 .1 .0 ∙ c .before .before .before .before .before .before .before .before .before .before .before .before .before .loop .inv .1 .long
 
   follow-returns : follow-lts.Need-returns (follow-claims t) (follow-at t) follow.Post follow-Inv-loop follow-μ-loop
-  follow-returns c = turn-decided (now (c .before .before .before .before .before .before .before .before .before .before .before .before .before .before .before .before .before .before .before .before .before .args .sheet)) (now (c .before .before .before .before .before .before .before .before .before .before .before .before .before .before .before .before .before .before .before .before .before .args .index)) (now (c .before .before .before .before .before .before .before .before .before .before .before .before .before .before .before .before .before .before .before .before .before .args .table)) (c .before .before .before .before .before .before .before .before .before .before .before .before .before .before .before .before .before .before .before .before .before .args .node .0) (c .before .before .before .before .before .before .before .before .before .before .before .before .before .before .before .before .before .before .before .before .before .args .state .0) (c .before .before .before .before .before .before .before .before .before .before .before .before .before .loop .inv .0) _ _ _ _ _ (c .before .before .before .before .before .before .before .before .before .before .before .before .before .loop .inv .1) (c .before .before .before .before .before .before .before .before .before .before .before .before .loop-test .taken) (sym (met (now (c .before .before .before .before .before .before .before .before .before .before .before .before .before .before .before .before .before .before .before .before .before .args .sheet)) (now (c .before .before .before .before .before .before .before .before .before .before .before .before .before .before .before .before .before .before .before .before .before .args .index)) (now (c .before .before .before .before .before .before .before .before .before .before .before .before .before .before .before .before .before .before .before .before .before .args .table)) (c .before .before .before .before .before .before .before .before .before .before .before .before .before .before .before .before .before .before .before .before .before .args .node .0) (c .before .before .before .before .before .before .before .before .before .before .before .before .before .before .before .before .before .before .before .before .before .args .state .0) (c .before .before .before .before .before .before .before .before .before .before .before .before .before .loop .inv .0) _ _ _ _ _ (c .before .before .before .before .before .before .before .before .before .before .before .before .before .loop .inv .1) (c .before .before .before .before .before .before .before .before .before .before .before .before .loop-test .taken) (c .before .before .before .before .before .before .before .before .before .meets .result) (c .before .before .before .before .before .before .before .before .before .before .mask-of .result) (c .before .before .before .before .before .before .before .before .before .before .before .label-of .result) (c .before .before .before .before .before .before .before .before .before .before .before .before .before .before .before .before .before .before .x-of .result) (c .before .before .before .before .before .before .before .before .before .meets .ensures) (c .before .before .before .before .before .before .before .before .before .before .mask-of .ensures) (c .before .before .before .before .before .before .before .before .before .before .before .label-of .ensures) (c .before .before .before .before .before .before .before .before .before .before .before .before .before .before .before .before .before .before .x-of .ensures)) ∙ c .before .before .before .before .before .before .before .before .if1 .taken) (c .before .before .before .before .before .before .before .before .before .before .before .before .before .before .before .before .before .y-of .result) (c .before .before .before .before .before .before .target-of .result .0) (c .before .before .before .before .before .before .before .before .before .before .before .before .before .before .before .before .before .y-of .ensures) (c .before .before .before .before .before .before .target-of .ensures) (c .before .before .before .before .before .decide .result) _ (c .before .before .before .before .before .decide .ensures) (ap (Bool·beq (verdictIn (c .before .before .before .before .before .decide .result))) (sym (c .before .before .before .before .before .before .before .before .before .before .before .before .before .before .before .before .before .before .before .before .before .pre .1 .1)) ∙ (sym (c .before .before .decides .ensures) ∙ c .before .if2 .taken)) _ (c .both .ensures)
+  follow-returns c = turn-decided (now (c .before .before .before .before .before .before .before .before .before .before .before .before .before .before .before .before .before .before .before .before .args .sheet)) (now (c .before .before .before .before .before .before .before .before .before .before .before .before .before .before .before .before .before .before .before .before .args .index)) (now (c .before .before .before .before .before .before .before .before .before .before .before .before .before .before .before .before .before .before .before .before .args .table)) (c .before .before .before .before .before .before .before .before .before .before .before .before .before .before .before .before .before .before .before .before .args .node .0) (c .before .before .before .before .before .before .before .before .before .before .before .before .before .before .before .before .before .before .before .before .args .state .0) (c .before .before .before .before .before .before .before .before .before .before .before .before .before .loop .inv .0) _ _ _ _ _ (c .before .before .before .before .before .before .before .before .before .before .before .before .before .loop .inv .1) (c .before .before .before .before .before .before .before .before .before .before .before .before .loop-test .taken) (sym (met (now (c .before .before .before .before .before .before .before .before .before .before .before .before .before .before .before .before .before .before .before .before .args .sheet)) (now (c .before .before .before .before .before .before .before .before .before .before .before .before .before .before .before .before .before .before .before .before .args .index)) (now (c .before .before .before .before .before .before .before .before .before .before .before .before .before .before .before .before .before .before .before .before .args .table)) (c .before .before .before .before .before .before .before .before .before .before .before .before .before .before .before .before .before .before .before .before .args .node .0) (c .before .before .before .before .before .before .before .before .before .before .before .before .before .before .before .before .before .before .before .before .args .state .0) (c .before .before .before .before .before .before .before .before .before .before .before .before .before .loop .inv .0) _ _ _ _ _ (c .before .before .before .before .before .before .before .before .before .before .before .before .before .loop .inv .1) (c .before .before .before .before .before .before .before .before .before .before .before .before .loop-test .taken) (c .before .before .before .before .before .before .before .before .before .meets .result) (c .before .before .before .before .before .before .before .before .before .before .mask-of .result) (c .before .before .before .before .before .before .before .before .before .before .before .label-of .result .0) (c .before .before .before .before .before .before .before .before .before .before .before .before .before .before .before .before .before .x-of .result) (c .before .before .before .before .before .before .before .before .before .meets .ensures) (c .before .before .before .before .before .before .before .before .before .before .mask-of .ensures) (c .before .before .before .before .before .before .before .before .before .before .before .label-of .ensures) (c .before .before .before .before .before .before .before .before .before .before .before .before .before .before .before .before .before .x-of .ensures)) ∙ c .before .before .before .before .before .before .before .before .if1 .taken) (c .before .before .before .before .before .before .before .before .before .before .before .before .before .before .before .before .y-of .result) (c .before .before .before .before .before .before .target-of .result .0) (c .before .before .before .before .before .before .before .before .before .before .before .before .before .before .before .before .y-of .ensures) (c .before .before .before .before .before .before .target-of .ensures) (c .before .before .before .before .before .decide .result) _ (c .before .before .before .before .before .decide .ensures) (ap (Bool·beq (verdictIn (c .before .before .before .before .before .decide .result))) (sym (c .before .before .before .before .before .before .before .before .before .before .before .before .before .before .before .before .before .before .before .before .pre .1 .1)) ∙ (sym (c .before .before .decides .ensures) ∙ c .before .if2 .taken)) _ (c .both .ensures)
 
   follow-both-requires-2 : follow-lts.Need-both-requires-2 (follow-claims t) (follow-at t) follow.Post follow-Inv-loop follow-μ-loop
-  follow-both-requires-2 c κs = (sum-small (now (c .before .before .before .before .before .before .before .before .before .before .before .before .before .before .before .before .before .before .before .before .args .sheet)) (now (c .before .before .before .before .before .before .before .before .before .before .before .before .before .before .before .before .before .before .before .before .args .index)) (now (c .before .before .before .before .before .before .before .before .before .before .before .before .before .before .before .before .before .before .before .before .args .table)) (c .before .before .before .before .before .before .before .before .before .before .before .before .before .before .before .before .before .before .before .before .args .node .0) (c .before .before .before .before .before .before .before .before .before .before .before .before .before .before .before .before .before .before .before .before .args .state .0) (c .before .before .before .before .before .before .before .before .before .before .before .before .loop .inv .0) _ _ _ _ _ (c .before .before .before .before .before .before .before .before .before .before .before .before .loop .inv .1), omega (arith, c .before .before .before .before .decide .ensures .small))
+  follow-both-requires-2 c κs = (sum-small (now (c .before .before .before .before .before .before .before .before .before .before .before .before .before .before .before .before .before .before .before .args .sheet)) (now (c .before .before .before .before .before .before .before .before .before .before .before .before .before .before .before .before .before .before .before .args .index)) (now (c .before .before .before .before .before .before .before .before .before .before .before .before .before .before .before .before .before .before .before .args .table)) (c .before .before .before .before .before .before .before .before .before .before .before .before .before .before .before .before .before .before .before .args .node .0) (c .before .before .before .before .before .before .before .before .before .before .before .before .before .before .before .before .before .before .before .args .state .0) (c .before .before .before .before .before .before .before .before .before .before .before .before .loop .inv .0) _ _ _ _ _ (c .before .before .before .before .before .before .before .before .before .before .before .before .loop .inv .1), omega (arith, c .before .before .before .before .decide .ensures .small))
 
   follow-add-i : follow-lts.Need-add-i (follow-claims t) (follow-at t) follow.Post follow-Inv-loop follow-μ-loop
   follow-add-i c = omega (arith, c .before .before .before .before .before .before .before .before .before .before .before .before .before .loop .inv .1 .few, c .before .before .before .before .before .before .before .before .before .before .before .before .before .loop .inv .1 .within)
@@ -300,7 +296,7 @@ module _ (t : ℕ) where
   follow-loop-less c = omega (arith, c .before .before .before .before .before .before .before .before .before .before .before .before .before .loop .inv .1 .few, c .before .before .before .before .before .before .before .before .before .before .before .before .before .loop .inv .1 .within)
 
   follow-loop-again : follow-lts.Need-loop-again (follow-claims t) (follow-at t) follow.Post follow-Inv-loop follow-μ-loop
-  follow-loop-again c = (c .before .before .before .before .before .before .before .before .before .before .before .before .before .loop .inv .0, turn-on (now (c .before .before .before .before .before .before .before .before .before .before .before .before .before .before .before .before .before .before .before .before .before .args .sheet)) (now (c .before .before .before .before .before .before .before .before .before .before .before .before .before .before .before .before .before .before .before .before .before .args .index)) (now (c .before .before .before .before .before .before .before .before .before .before .before .before .before .before .before .before .before .before .before .before .before .args .table)) (c .before .before .before .before .before .before .before .before .before .before .before .before .before .before .before .before .before .before .before .before .before .args .node .0) (c .before .before .before .before .before .before .before .before .before .before .before .before .before .before .before .before .before .before .before .before .before .args .state .0) (c .before .before .before .before .before .before .before .before .before .before .before .before .before .loop .inv .0) _ _ _ _ _ (c .before .before .before .before .before .before .before .before .before .before .before .before .before .loop .inv .1) (c .before .before .before .before .before .before .before .before .before .before .before .before .loop-test .taken) (sym (met (now (c .before .before .before .before .before .before .before .before .before .before .before .before .before .before .before .before .before .before .before .before .before .args .sheet)) (now (c .before .before .before .before .before .before .before .before .before .before .before .before .before .before .before .before .before .before .before .before .before .args .index)) (now (c .before .before .before .before .before .before .before .before .before .before .before .before .before .before .before .before .before .before .before .before .before .args .table)) (c .before .before .before .before .before .before .before .before .before .before .before .before .before .before .before .before .before .before .before .before .before .args .node .0) (c .before .before .before .before .before .before .before .before .before .before .before .before .before .before .before .before .before .before .before .before .before .args .state .0) (c .before .before .before .before .before .before .before .before .before .before .before .before .before .loop .inv .0) _ _ _ _ _ (c .before .before .before .before .before .before .before .before .before .before .before .before .before .loop .inv .1) (c .before .before .before .before .before .before .before .before .before .before .before .before .loop-test .taken) (c .before .before .before .before .before .before .before .before .before .meets .result) (c .before .before .before .before .before .before .before .before .before .before .mask-of .result) (c .before .before .before .before .before .before .before .before .before .before .before .label-of .result) (c .before .before .before .before .before .before .before .before .before .before .before .before .before .before .before .before .before .before .x-of .result) (c .before .before .before .before .before .before .before .before .before .meets .ensures) (c .before .before .before .before .before .before .before .before .before .before .mask-of .ensures) (c .before .before .before .before .before .before .before .before .before .before .before .label-of .ensures) (c .before .before .before .before .before .before .before .before .before .before .before .before .before .before .before .before .before .before .x-of .ensures)) ∙ c .before .before .before .before .before .before .before .before .if1 .taken) (c .before .before .before .before .before .before .before .before .before .before .before .before .before .before .before .before .before .y-of .result) (c .before .before .before .before .before .before .target-of .result .0) (c .before .before .before .before .before .before .before .before .before .before .before .before .before .before .before .before .before .y-of .ensures) (c .before .before .before .before .before .before .target-of .ensures) (c .before .before .before .before .before .decide .result) _ (c .before .before .before .before .before .decide .ensures) (ap (Bool·beq (verdictIn (c .before .before .before .before .before .decide .result))) (sym (c .before .before .before .before .before .before .before .before .before .before .before .before .before .before .before .before .before .before .before .before .before .pre .1 .1)) ∙ (sym (c .before .before .decides .ensures) ∙ c .before .if2 .left)) _ (c .both2 .ensures) (c .before .before .before .before .before .decide .kept .1 .1 .0))
+  follow-loop-again c = (c .before .before .before .before .before .before .before .before .before .before .before .before .before .loop .inv .0, turn-on (now (c .before .before .before .before .before .before .before .before .before .before .before .before .before .before .before .before .before .before .before .before .args .sheet)) (now (c .before .before .before .before .before .before .before .before .before .before .before .before .before .before .before .before .before .before .before .before .args .index)) (now (c .before .before .before .before .before .before .before .before .before .before .before .before .before .before .before .before .before .before .before .before .args .table)) (c .before .before .before .before .before .before .before .before .before .before .before .before .before .before .before .before .before .before .before .before .args .node .0) (c .before .before .before .before .before .before .before .before .before .before .before .before .before .before .before .before .before .before .before .before .args .state .0) (c .before .before .before .before .before .before .before .before .before .before .before .before .before .loop .inv .0) _ _ _ _ _ (c .before .before .before .before .before .before .before .before .before .before .before .before .before .loop .inv .1) (c .before .before .before .before .before .before .before .before .before .before .before .before .loop-test .taken) (sym (met (now (c .before .before .before .before .before .before .before .before .before .before .before .before .before .before .before .before .before .before .before .before .args .sheet)) (now (c .before .before .before .before .before .before .before .before .before .before .before .before .before .before .before .before .before .before .before .before .args .index)) (now (c .before .before .before .before .before .before .before .before .before .before .before .before .before .before .before .before .before .before .before .before .args .table)) (c .before .before .before .before .before .before .before .before .before .before .before .before .before .before .before .before .before .before .before .before .args .node .0) (c .before .before .before .before .before .before .before .before .before .before .before .before .before .before .before .before .before .before .before .before .args .state .0) (c .before .before .before .before .before .before .before .before .before .before .before .before .before .loop .inv .0) _ _ _ _ _ (c .before .before .before .before .before .before .before .before .before .before .before .before .before .loop .inv .1) (c .before .before .before .before .before .before .before .before .before .before .before .before .loop-test .taken) (c .before .before .before .before .before .before .before .before .before .meets .result) (c .before .before .before .before .before .before .before .before .before .before .mask-of .result) (c .before .before .before .before .before .before .before .before .before .before .before .label-of .result .0) (c .before .before .before .before .before .before .before .before .before .before .before .before .before .before .before .before .before .x-of .result) (c .before .before .before .before .before .before .before .before .before .meets .ensures) (c .before .before .before .before .before .before .before .before .before .before .mask-of .ensures) (c .before .before .before .before .before .before .before .before .before .before .before .label-of .ensures) (c .before .before .before .before .before .before .before .before .before .before .before .before .before .before .before .before .before .x-of .ensures)) ∙ c .before .before .before .before .before .before .before .before .if1 .taken) (c .before .before .before .before .before .before .before .before .before .before .before .before .before .before .before .before .y-of .result) (c .before .before .before .before .before .before .target-of .result .0) (c .before .before .before .before .before .before .before .before .before .before .before .before .before .before .before .before .y-of .ensures) (c .before .before .before .before .before .before .target-of .ensures) (c .before .before .before .before .before .decide .result) _ (c .before .before .before .before .before .decide .ensures) (ap (Bool·beq (verdictIn (c .before .before .before .before .before .decide .result))) (sym (c .before .before .before .before .before .before .before .before .before .before .before .before .before .before .before .before .before .before .before .before .pre .1 .1)) ∙ (sym (c .before .before .decides .ensures) ∙ c .before .if2 .left)) _ (c .both2 .ensures) (c .before .before .before .before .before .decide .kept .1 .1 .0))
 
   follow-add-i-2 : follow-lts.Need-add-i-2 (follow-claims t) (follow-at t) follow.Post follow-Inv-loop follow-μ-loop
   follow-add-i-2 c = omega (arith, c .before .before .before .before .before .loop .inv .1 .few, c .before .before .before .before .before .loop .inv .1 .within)
@@ -309,19 +305,19 @@ module _ (t : ℕ) where
   follow-loop-less-2 c = omega (arith, c .before .before .before .before .before .loop .inv .1 .few, c .before .before .before .before .before .loop .inv .1 .within)
 
   follow-loop-again-2 : follow-lts.Need-loop-again-2 (follow-claims t) (follow-at t) follow.Post follow-Inv-loop follow-μ-loop
-  follow-loop-again-2 c = (c .before .before .before .before .before .loop .inv .0, turn-past (now (c .before .before .before .before .before .before .before .before .before .before .before .before .before .args .sheet)) (now (c .before .before .before .before .before .before .before .before .before .before .before .before .before .args .index)) (now (c .before .before .before .before .before .before .before .before .before .before .before .before .before .args .table)) (c .before .before .before .before .before .before .before .before .before .before .before .before .before .args .node .0) (c .before .before .before .before .before .before .before .before .before .before .before .before .before .args .state .0) (c .before .before .before .before .before .loop .inv .0) _ _ _ _ _ (c .before .before .before .before .before .loop .inv .1) (c .before .before .before .before .loop-test .taken) (sym (met (now (c .before .before .before .before .before .before .before .before .before .before .before .before .before .args .sheet)) (now (c .before .before .before .before .before .before .before .before .before .before .before .before .before .args .index)) (now (c .before .before .before .before .before .before .before .before .before .before .before .before .before .args .table)) (c .before .before .before .before .before .before .before .before .before .before .before .before .before .args .node .0) (c .before .before .before .before .before .before .before .before .before .before .before .before .before .args .state .0) (c .before .before .before .before .before .loop .inv .0) _ _ _ _ _ (c .before .before .before .before .before .loop .inv .1) (c .before .before .before .before .loop-test .taken) (c .before .meets .result) (c .before .before .mask-of .result) (c .before .before .before .label-of .result) (c .before .before .before .before .before .before .before .before .before .before .x-of .result) (c .before .meets .ensures) (c .before .before .mask-of .ensures) (c .before .before .before .label-of .ensures) (c .before .before .before .before .before .before .before .before .before .before .x-of .ensures)) ∙ c .if1 .left))
+  follow-loop-again-2 c = (c .before .before .before .before .before .loop .inv .0, turn-past (now (c .before .before .before .before .before .before .before .before .before .before .before .before .args .sheet)) (now (c .before .before .before .before .before .before .before .before .before .before .before .before .args .index)) (now (c .before .before .before .before .before .before .before .before .before .before .before .before .args .table)) (c .before .before .before .before .before .before .before .before .before .before .before .before .args .node .0) (c .before .before .before .before .before .before .before .before .before .before .before .before .args .state .0) (c .before .before .before .before .before .loop .inv .0) _ _ _ _ _ (c .before .before .before .before .before .loop .inv .1) (c .before .before .before .before .loop-test .taken) (sym (met (now (c .before .before .before .before .before .before .before .before .before .before .before .before .args .sheet)) (now (c .before .before .before .before .before .before .before .before .before .before .before .before .args .index)) (now (c .before .before .before .before .before .before .before .before .before .before .before .before .args .table)) (c .before .before .before .before .before .before .before .before .before .before .before .before .args .node .0) (c .before .before .before .before .before .before .before .before .before .before .before .before .args .state .0) (c .before .before .before .before .before .loop .inv .0) _ _ _ _ _ (c .before .before .before .before .before .loop .inv .1) (c .before .before .before .before .loop-test .taken) (c .before .meets .result) (c .before .before .mask-of .result) (c .before .before .before .label-of .result .0) (c .before .before .before .before .before .before .before .before .before .x-of .result) (c .before .meets .ensures) (c .before .before .mask-of .ensures) (c .before .before .before .label-of .ensures) (c .before .before .before .before .before .before .before .before .before .x-of .ensures)) ∙ c .if1 .left))
 
   follow-number-of-requires : follow-lts.Need-number-of-requires (follow-claims t) (follow-at t) follow.Post follow-Inv-loop follow-μ-loop
   follow-number-of-requires c κs = search needs
 
   follow-both-requires-3 : follow-lts.Need-both-requires-3 (follow-claims t) (follow-at t) follow.Post follow-Inv-loop follow-μ-loop
-  follow-both-requires-3 c κs = (sum-small (now (c .before .before .before .before .before .before .before .before .before .before .args .sheet)) (now (c .before .before .before .before .before .before .before .before .before .before .args .index)) (now (c .before .before .before .before .before .before .before .before .before .before .args .table)) (c .before .before .before .before .before .before .before .before .before .before .args .node .0) (c .before .before .before .before .before .before .before .before .before .before .args .state .0) (c .before .before .loop .inv .0) _ _ _ _ _ (c .before .before .loop .inv .1), omega (arith, c .number-of .ensures .1))
+  follow-both-requires-3 c κs = (sum-small (now (c .before .before .before .before .before .before .before .before .before .args .sheet)) (now (c .before .before .before .before .before .before .before .before .before .args .index)) (now (c .before .before .before .before .before .before .before .before .before .args .table)) (c .before .before .before .before .before .before .before .before .before .args .node .0) (c .before .before .before .before .before .before .before .before .before .args .state .0) (c .before .before .loop .inv .0) _ _ _ _ _ (c .before .before .loop .inv .1), omega (arith, c .number-of .ensures .1))
 
   follow-same-length-2 : follow-lts.Need-same-length-2 (follow-claims t) (follow-at t) follow.Post follow-Inv-loop follow-μ-loop
   follow-same-length-2 c = c .before .before .before .loop .inv .1 .long
 
   follow-returns-2 : follow-lts.Need-returns-2 (follow-claims t) (follow-at t) follow.Post follow-Inv-loop follow-μ-loop
-  follow-returns-2 c = finish (now (c .before .before .before .before .before .before .before .before .before .before .before .args .sheet)) (now (c .before .before .before .before .before .before .before .before .before .before .before .args .index)) (now (c .before .before .before .before .before .before .before .before .before .before .before .args .table)) (c .before .before .before .before .before .before .before .before .before .before .before .args .node .0) (c .before .before .before .before .before .before .before .before .before .before .before .args .state .0) (c .before .before .before .loop .inv .0) _ _ _ _ _ (c .before .before .before .loop .inv .1) (c .before .before .loop-test .left) _ (c .before .before .before .before .before .before .before .before .before .before .before .pre .1 .1) _ _ (c .before .number-of .ensures .0) (c .both3 .ensures)
+  follow-returns-2 c = finish (now (c .before .before .before .before .before .before .before .before .before .before .args .sheet)) (now (c .before .before .before .before .before .before .before .before .before .before .args .index)) (now (c .before .before .before .before .before .before .before .before .before .before .args .table)) (c .before .before .before .before .before .before .before .before .before .before .args .node .0) (c .before .before .before .before .before .before .before .before .before .before .args .state .0) (c .before .before .before .loop .inv .0) _ _ _ _ _ (c .before .before .before .loop .inv .1) (c .before .before .loop-test .left) _ (c .before .before .before .before .before .before .before .before .before .before .pre .1 .1) _ _ (c .before .number-of .ensures .0) (c .both3 .ensures)
 
 pub +decide+follow-spec : {M : Type 1} → statement M
 +decide+follow-spec =
@@ -332,38 +328,38 @@ pub +decide+follow-spec : {M : Type 1} → statement M
     (decide-known-verdict-requires t)
     (decide-returns t)
     (decide-kind-of-requires t)
-    (decide-close-requires t)
-    (decide-close-requires-2 t)
+    (decide-fill-cell-requires t)
+    (decide-fill-cell-requires-2 t)
     (decide-follow-requires t)
-    (decide-close-requires-3 t)
+    (decide-fill-cell-requires-3 t)
     (decide-follow-requires-2 t)
-    (decide-close-requires-4 t)
+    (decide-fill-cell-requires-4 t)
     (decide-x-of-requires t)
     (decide-binder-of-requires t)
     (decide-is-outer-requires t)
     (decide-decide-requires t)
-    (decide-close-requires-5 t)
+    (decide-fill-cell-requires-5 t)
     (decide-same-length t)
     (decide-returns-2 t)
     (decide-kind-of-requires-2 t)
     (decide-number-of-requires t)
-    (decide-close-requires-6 t)
+    (decide-fill-cell-requires-6 t)
     (decide-x-of-requires-2 t)
     (decide-decide-requires-2 t)
     (decide-decides-requires t)
-    (decide-close-requires-7 t)
+    (decide-fill-cell-requires-7 t)
     (decide-same-length-2 t)
     (decide-returns-3 t)
     (decide-y-of-requires t)
     (decide-decide-requires-3 t)
     (decide-both-requires t)
-    (decide-close-requires-8 t)
+    (decide-fill-cell-requires-8 t)
     (decide-x-of-requires-3 t)
     (decide-y-of-requires-2 t)
     (decide-opening-requires t)
     (decide-decide-requires-4 t)
-    (decide-close-requires-9 t)
-    (decide-close-requires-10 t)
+    (decide-fill-cell-requires-9 t)
+    (decide-fill-cell-requires-10 t)
     (decide-same-length-3 t)
     (decide-returns-4 t)
     (decide-same-length-4 t)
@@ -383,10 +379,8 @@ pub +decide+follow-spec : {M : Type 1} → statement M
     (λ t. follow-lts.spec (follow-claims t) (follow-at t) follow.Post follow-Inv-loop follow-μ-loop
     (follow-x-of-requires t)
     (follow-y-of-requires t)
-    (follow-cast-from t)
-    (follow-add-first-of t)
+    (follow-end-of-requires t)
     (follow-first-of-requires t)
-    (follow-first-of-requires-2 t)
     (follow-loop-holds t)
     (follow-label-of-requires t)
     (follow-mask-of-requires t)

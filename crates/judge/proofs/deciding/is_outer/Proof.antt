@@ -11,7 +11,7 @@ sub-result : tie.Need-sub-result
 sub-result c = search needs
 
 returns-2 : tie.Need-returns-2
-returns-2 c = outer-later _ _ (c .if1 .left)
+returns-2 c = outer-later _ _ (c .before .if1 .left)
 
 pub is-outer-spec : {M : Type 1} → statement M
 is-outer-spec = tie.close (tie.spec returns sub-result returns-2)

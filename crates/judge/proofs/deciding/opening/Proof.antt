@@ -8,7 +8,7 @@ add-result : tie.Need-add-result
 add-result c = search needs
 
 returns : tie.Need-returns
-returns c = opened-first _ _ (c .if1 .taken)
+returns c = opened-first _ _ (c .before .if1 .taken)
 
 returns-2 : tie.Need-returns-2
 returns-2 c = opened-later _ _ (c .if1 .left)

@@ -14,10 +14,10 @@ use Rattle.judge.proofs.prepare.first_from.Statement.{statement}
 use Rattle.judge.proofs.prepare.first_from.Tie as tie
 
 abbrev Inv-loop : tie.InvT-loop
-Inv-loop plan state at count i₀ i = (i ≤ count) × (lowestFrom (from plan state) (count - i) i ≡ firstFrom plan state)
+Inv-loop plan at least count i₀ i = (i ≤ count) × (lowestFrom (from plan least) (count - i) i ≡ firstFrom plan least)
 
 abbrev μ-loop : tie.MeasureT-loop
-μ-loop plan state at count i₀ i = count - i
+μ-loop plan at least count i₀ i = count - i
 
 transition-count-requires : tie.Need-transition-count-requires Inv-loop μ-loop
 transition-count-requires c κs = search needs
@@ -30,8 +30,8 @@ origin-at-requires c κs = search needs
 
 returns : tie.Need-returns Inv-loop μ-loop
 returns c =
-    let a = c .before .before .before .before .before .before .args in
-    search-here (from (now (a .plan)) (a .state)) _ _ _ (omega arith) (le-leb (a .state) (origin (now (a .plan)) (c .before .before .before .loop .i)) (omega arith)) (c .before .before .before .loop .inv .1)
+    let a = c .before .before .before .before .before .before .before .args in
+    search-here (from (now (a .plan)) (a .state .0)) _ _ _ (omega arith) (le-leb (a .state .0) (origin (now (a .plan)) (c .before .before .before .before .loop .i)) (omega arith)) (c .before .before .before .before .loop .inv .1)
 
 add-i : tie.Need-add-i Inv-loop μ-loop
 add-i c = omega arith
@@ -41,9 +41,9 @@ loop-less c = omega arith
 
 loop-again : tie.Need-loop-again Inv-loop μ-loop
 loop-again c =
-    let a = c .before .before .before .before .before .before .args in (
+    let a = c .before .before .before .before .before .before .before .args in (
       omega arith,
-      search-next (from (now (a .plan)) (a .state)) _ _ _ (omega arith) (lt-leb (a .state) (origin (now (a .plan)) (c .before .before .before .loop .i)) (omega arith)) (c .before .before .before .loop .inv .1),
+      search-next (from (now (a .plan)) (a .state .0)) _ _ _ (omega arith) (lt-leb (a .state .0) (origin (now (a .plan)) (c .before .before .before .before .loop .i)) (omega arith)) (c .before .before .before .before .loop .inv .1),
     )
 
 returns-2 : tie.Need-returns-2 Inv-loop μ-loop

@@ -8,11 +8,8 @@ use Rattle.judge.proofs.prepare.label_at.Tie as tie
 transition-requires : tie.Need-transition-requires
 transition-requires c κs = search needs
 
-cast-result : tie.Need-cast-result
-cast-result c = search needs
-
 returns : tie.Need-returns
-returns c = (ap (λ (t : Transition). t .action .0) (c .before .before .transition .ensures), search needs)
+returns c = ap (λ (t : Transition). t .action .0) (c .before .transition .ensures)
 
 pub label-at-spec : {M : Type 1} → statement M
-label-at-spec = tie.close (tie.spec transition-requires cast-result returns)
+label-at-spec = tie.close (tie.spec transition-requires returns)

@@ -4,11 +4,9 @@ use native.Mathlib.Omega.{arith}
 use mathlib.Core.Path.{_≡_}
 use Prim.Native.Nat.{ℕ, _+_, _-_, _≤_}
 use mathlib.Core.List.{List}
-use lib.ListN.{length, length-set}
 use denote.Ref.{now}
 use Rattle.sheet.specs.Rule.{binderNode}
-use Rattle.judge.specs.Preparing.{SameBefore}
-use Rattle.judge.proofs.PrepareSteps.{same-start, same-set, Filled, filled-none, filled-more}
+use Rattle.judge.proofs.PrepareSteps.{Filled, filled-none, filled-more}
 use Rattle.judge.proofs.prepare.put_binders.Statement.{statement}
 use Rattle.judge.proofs.prepare.put_binders.Tie as tie
 
@@ -16,7 +14,7 @@ abbrev Right : List ℕ → ℕ → ℕ → Type 0
 Right rule k v = v ≡ binderNode rule k
 
 abbrev Inv-loop : tie.InvT-loop
-Inv-loop rule index₀ k₀ index k = (k ≤ 6) × (length index ≡ 416) × SameBefore 3 index₀ index × Filled (Right rule) 3 k index
+Inv-loop rule index₀ k₀ index k = (k ≤ 6) × Filled (Right rule) 3 index₀ k index
 
 abbrev μ-loop : tie.MeasureT-loop
 μ-loop rule index₀ k₀ index k = 6 - k
@@ -24,7 +22,7 @@ abbrev μ-loop : tie.MeasureT-loop
 loop-holds : tie.Need-loop-holds Inv-loop μ-loop
 loop-holds c =
     let a = c .before .args in
-    (omega arith, c .before .pre, same-start 3 (now (a .index)), filled-none (Right (now (a .rule))) 3 (now (a .index)))
+    (omega arith, filled-none (Right (now (a .rule))) 3 (now (a .index)) (c .before .pre))
 
 binder-node-requires : tie.Need-binder-node-requires Inv-loop μ-loop
 binder-node-requires c κs = search needs
@@ -54,15 +52,10 @@ loop-again : tie.Need-loop-again Inv-loop μ-loop
 loop-again c =
     let a = c .before .before .before .before .before .args in
     let l = c .before .before .before .loop in
-    let v = c .before .binder-node .result .0 in (
-      omega arith,
-      simp length-set (l .inv .1),
-      same-set 3 (now (a .index)) (l .index) (3 + l .k) v (omega arith) (l .inv .2),
-      filled-more (Right (now (a .rule))) 3 (l .k) v (l .index) (omega arith) (l .inv .3) (c .before .binder-node .ensures),
-    )
+    (omega arith, filled-more (Right (now (a .rule))) 3 (now (a .index)) (l .k) (l .index) (l .inv .1) (c .before .binder-node .result .0) (omega arith) (c .before .binder-node .ensures))
 
 returns : tie.Need-returns Inv-loop μ-loop
-returns c = record { size = c .before .loop .inv .1; same = c .before .loop .inv .2; filled = λ k h. c .before .loop .inv .3 k (omega arith) }
+returns c = let f = c .before .loop .inv .1 in record { size = f .size; same = f .same; filled = λ k h. f .filled k (omega arith) }
 
 pub put-binders-spec : {M : Type 1} → statement M
 put-binders-spec =

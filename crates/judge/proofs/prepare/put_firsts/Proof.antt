@@ -5,10 +5,9 @@ use mathlib.Core.Path.{_≡_}
 use mathlib.Core.List.{List}
 use Prim.Native.Nat.{ℕ, _+_, _-_, _≤_}
 use denote.Ref.{now}
-use lib.ListN.{length, length-set}
 use Rattle.judge.specs.Deciding.{firstFrom}
-use Rattle.judge.specs.Preparing.{SameBefore, AllBefore}
-use Rattle.judge.proofs.PrepareSteps.{none-before, next-before, same-start, same-set, Filled, filled-none, filled-more}
+use Rattle.judge.specs.Preparing.{AllBefore}
+use Rattle.judge.proofs.PrepareSteps.{none-before, next-before, Filled, filled-none, filled-more}
 use Rattle.judge.proofs.prepare.put_firsts.Statement.{statement}
 use Rattle.judge.proofs.prepare.put_firsts.Tie as tie
 
@@ -16,7 +15,7 @@ abbrev Right : List ℕ → ℕ → ℕ → Type 0
 Right plan state v = v ≡ firstFrom plan state
 
 abbrev Inv-loop : tie.InvT-loop
-Inv-loop plan index₀ states at₀ state₀ index at state = (state ≤ states + 1) × (length index ≡ 416) × SameBefore 16 index₀ index × Filled (Right plan) 16 state index × AllBefore plan state at
+Inv-loop plan index₀ states at₀ state₀ index at state = (state ≤ states + 1) × Filled (Right plan) 16 index₀ state index × AllBefore plan state at
 
 abbrev μ-loop : tie.MeasureT-loop
 μ-loop plan index₀ states at₀ state₀ index at state = states + 1 - state
@@ -27,10 +26,10 @@ state-count-requires c κs = search needs
 loop-holds : tie.Need-loop-holds Inv-loop μ-loop
 loop-holds c =
     let a = c .before .before .args in
-    (omega arith, c .before .before .pre .1, same-start 16 (now (a .index)), filled-none (Right (now (a .plan))) 16 (now (a .index)), none-before (now (a .plan)) 0)
+    (omega arith, filled-none (Right (now (a .plan))) 16 (now (a .index)) (c .before .before .pre .1), none-before (now (a .plan)) 0)
 
 first-from-requires : tie.Need-first-from-requires Inv-loop μ-loop
-first-from-requires c κs = c .before .loop .inv .4
+first-from-requires c κs = c .before .loop .inv .2
 
 cast-index : tie.Need-cast-index Inv-loop μ-loop
 cast-index c = search needs
@@ -59,14 +58,12 @@ loop-again c =
     let l = c .before .before .loop in
     let v = c .first-from .result in (
       omega arith,
-      simp length-set (l .inv .1),
-      same-set 16 (now (a .index)) (l .index) (16 + l .state) v (omega arith) (l .inv .2),
-      filled-more (Right (now (a .plan))) 16 (l .state) v (l .index) (omega arith) (l .inv .3) (c .first-from .ensures),
+      filled-more (Right (now (a .plan))) 16 (now (a .index)) (l .state) (l .index) (l .inv .1) v (omega arith) (c .first-from .ensures),
       next-before (now (a .plan)) (l .state) v (c .first-from .ensures),
     )
 
 returns : tie.Need-returns Inv-loop μ-loop
-returns c = record { size = c .before .loop .inv .1; same = c .before .loop .inv .2; filled = λ state h. c .before .loop .inv .3 state (omega arith) }
+returns c = let f = c .before .loop .inv .1 in record { size = f .size; same = f .same; filled = λ state h. f .filled state (omega arith) }
 
 pub put-firsts-spec : {M : Type 1} → statement M
 put-firsts-spec =

@@ -5,11 +5,10 @@ use mathlib.Core.Path.{_≡_, ap, _∙_}
 use mathlib.Core.List.{List}
 use Prim.Native.Nat.{ℕ, _+_, _-_, _≤_}
 use denote.Ref.{now}
-use lib.ListN.{length, getD, length-set}
+use lib.ListN.{getD}
 use Rattle.sheet.specs.Plan.{actionCount, label}
 use Rattle.calculus.specs.Meeting.{meetingMask}
-use Rattle.judge.specs.Preparing.{SameBefore}
-use Rattle.judge.proofs.PrepareSteps.{same-start, same-set, Filled, filled-none, filled-more, filled-next}
+use Rattle.judge.proofs.PrepareSteps.{Filled, filled-none, filled-more, filled-next}
 use Rattle.judge.proofs.prepare.put_masks.Statement.{statement}
 use Rattle.judge.proofs.prepare.put_masks.Tie as tie
 
@@ -17,7 +16,7 @@ abbrev Right : List ℕ → List ℕ → List ℕ → ℕ → ℕ → Type 0
 Right plan actions used a v = getD used a 0 ≡ 1 → v ≡ meetingMask (actionCount plan) actions a
 
 abbrev Inv-loop : tie.InvT-loop
-Inv-loop plan actions index₀ count used a₀ index a = (a ≤ 256) × (length index ≡ 416) × SameBefore 160 index₀ index × Filled (Right plan actions used) 160 a index
+Inv-loop plan actions index₀ count used a₀ index a = (a ≤ 256) × Filled (Right plan actions used) 160 index₀ a index
 
 abbrev μ-loop : tie.MeasureT-loop
 μ-loop plan actions index₀ count used a₀ index a = 256 - a
@@ -32,7 +31,7 @@ loop-holds : tie.Need-loop-holds Inv-loop μ-loop
 loop-holds c =
     let b = c .before .before .before .before in
     let a = b .args in
-    (omega arith, b .pre, same-start 160 (now (a .index)), filled-none (Right (now (a .plan)) (now (a .actions)) (c .used-actions .result)) 160 (now (a .index)))
+    (omega arith, filled-none (Right (now (a .plan)) (now (a .actions)) (c .used-actions .result)) 160 (now (a .index)) (b .pre))
 
 array-read-if1 : tie.Need-array-read-if1 Inv-loop μ-loop
 array-read-if1 c = omega arith
@@ -62,12 +61,9 @@ loop-again : tie.Need-loop-again Inv-loop μ-loop
 loop-again c =
     let a = c .before .before .before .before .before .before .before .before .args in
     let l = c .before .before .before .loop in
-    let v = c .meeting .result in
     let count = c .before .before .before .before .before .action-count .ensures in (
       omega arith,
-      simp length-set (l .inv .1),
-      same-set 160 (now (a .index)) (l .index) (160 + l .a) v (omega arith) (l .inv .2),
-      filled-more (Right (now (a .plan)) (now (a .actions)) (c .before .before .before .before .used-actions .result)) 160 (l .a) v (l .index) (omega arith) (l .inv .3)
+      filled-more (Right (now (a .plan)) (now (a .actions)) (c .before .before .before .before .used-actions .result)) 160 (now (a .index)) (l .a) (l .index) (l .inv .1) (c .meeting .result) (omega arith)
           (λ one. c .meeting .ensures ∙ ap (λ (n : ℕ). meetingMask n (now (a .actions)) (l .a)) count),
     )
 
@@ -82,20 +78,18 @@ loop-again-2 c =
     let a = c .before .before .before .before .before .before .before .args in
     let l = c .before .before .loop in (
       omega arith,
-      l .inv .1,
-      l .inv .2,
-      filled-next (Right (now (a .plan)) (now (a .actions)) (c .before .before .before .used-actions .result)) 160 (l .a) (l .index) (l .inv .3) (λ one. absurd (c .if1 .left one)),
+      filled-next (Right (now (a .plan)) (now (a .actions)) (c .before .before .before .used-actions .result)) 160 (now (a .index)) (l .a) (l .index) (l .inv .1) (λ one. absurd (c .if1 .left one)),
     )
 
 returns : tie.Need-returns Inv-loop μ-loop
 returns c =
     let a = c .before .before .before .before .before .before .args in
-    let l = c .before .loop in
+    let f = c .before .loop .inv .1 in
     let u = c .before .before .used-actions .ensures in
     record {
-      size = l .inv .1;
-      same = l .inv .2;
-      filled = λ i h. l .inv .3 (label (now (a .plan)) i) (omega (arith, u .occurs i h .0)) (u .occurs i h .1);
+      size = f .size;
+      same = f .same;
+      filled = λ i h. f .filled (label (now (a .plan)) i) (omega (arith, u .occurs i h .0)) (u .occurs i h .1);
     }
 
 pub put-masks-spec : {M : Type 1} → statement M

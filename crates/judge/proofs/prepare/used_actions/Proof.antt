@@ -24,6 +24,9 @@ loop-holds c = (omega arith, refl, λ i h. absurd (omega arith))
 label-at-requires : tie.Need-label-at-requires Inv-loop μ-loop
 label-at-requires c κs = search needs
 
+cast-at : tie.Need-cast-at Inv-loop μ-loop
+cast-at c = omega arith
+
 array-write-used : tie.Need-array-write-used Inv-loop μ-loop
 array-write-used c = omega arith
 
@@ -35,9 +38,9 @@ loop-less c = omega arith
 
 loop-again : tie.Need-loop-again Inv-loop μ-loop
 loop-again c =
-    let a = c .before .before .before .before .before .args in
-    let l = c .before .before .loop in
-    (omega arith, simp length-set (l .inv .1), marked-more (now (a .plan)) (l .i) (c .label-at .result) (l .used) (c .label-at .ensures .0) (omega arith) (l .inv .1) (l .inv .2))
+    let a = c .before .before .before .before .before .before .args in
+    let l = c .before .before .before .loop in
+    (omega arith, simp length-set (l .inv .1), marked-more (now (a .plan)) (l .i) (c .before .label-at .result .0) (l .used) (c .before .label-at .ensures) (omega arith) (l .inv .1) (l .inv .2))
 
 returns : tie.Need-returns Inv-loop μ-loop
 returns c = record { size = c .before .loop .inv .1; occurs = λ i h. c .before .loop .inv .2 i (omega arith) }
@@ -51,6 +54,7 @@ used-actions-spec =
     transition-count-requires
     loop-holds
     label-at-requires
+    cast-at
     array-write-used
     add-i
     loop-less

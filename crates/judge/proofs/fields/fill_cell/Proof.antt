@@ -1,13 +1,13 @@
--- `judge::fields::close` meets its contract.
+-- `judge::fields::fill_cell` meets its contract.
 use borrow.Author.Needs.{needs}
 use native.Mathlib.Omega.{arith}
 use mathlib.Core.Path.{sym, ap, _∙_}
 use Prim.Native.Nat.{ℕ}
 use denote.Ref.{now}
 use lib.ListN.{set}
-use Rattle.judge.proofs.FieldSteps.{closed, true-byte, false-byte}
-use Rattle.judge.proofs.fields.close.Statement.{statement}
-use Rattle.judge.proofs.fields.close.Tie as tie
+use Rattle.judge.proofs.FieldSteps.{cell-filled, true-byte, false-byte}
+use Rattle.judge.proofs.fields.fill_cell.Statement.{statement}
+use Rattle.judge.proofs.fields.fill_cell.Tie as tie
 
 is-true-requires : tie.Need-is-true-requires
 is-true-requires c κs = search needs
@@ -22,7 +22,7 @@ same-length : tie.Need-same-length
 same-length c = search needs
 
 returns : tie.Need-returns
-returns c = let a = c .before .before .before .args in (closed _, ap (set (now (a .table)) (a .at)) (true-byte (a .w) (sym (c .before .is-true .ensures) ∙ c .if1 .taken)))
+returns c = let a = c .before .before .before .args in (cell-filled _, ap (set (now (a .table)) (a .at)) (true-byte (a .w) (sym (c .before .is-true .ensures) ∙ c .if1 .taken)))
 
 slice-write-table-2 : tie.Need-slice-write-table-2
 slice-write-table-2 c = search needs
@@ -34,10 +34,10 @@ same-length-2 : tie.Need-same-length-2
 same-length-2 c = search needs
 
 returns-2 : tie.Need-returns-2
-returns-2 c = let a = c .before .before .before .args in (closed _, ap (set (now (a .table)) (a .at)) (false-byte (a .w) (sym (c .before .is-true .ensures) ∙ c .if1 .left)))
+returns-2 c = let a = c .before .before .before .args in (cell-filled _, ap (set (now (a .table)) (a .at)) (false-byte (a .w) (sym (c .before .is-true .ensures) ∙ c .if1 .left)))
 
-pub close-spec : {M : Type 1} → statement M
-close-spec =
+pub fill-cell-spec : {M : Type 1} → statement M
+fill-cell-spec =
     tie.close
     (tie.spec
     is-true-requires
