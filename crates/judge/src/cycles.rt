@@ -5,7 +5,8 @@ use sheet::State;
 use sheet::plan::state_count;
 ghost use mathlib.Core.Path.{_≡_};
 ghost use Prim.Native.Nat.{_+_, _*_, _<_};
-ghost use lib.ListN.{length};
+ghost use lib.ListN.{length, getD};
+ghost use lib.Dec.{ltb};
 ghost use Rattle.sheet.specs.Plan.{target};
 ghost use Rattle.judge.specs.Querying.{loopless};
 ghost use Rattle.judge.specs.Searching.{Indexed, Searching, Searched};
@@ -16,6 +17,14 @@ fn plan_target(plan: &[u8], i: usize) -> State
     ensures { λ t. ⌜ t .0 ≡ target (now (plan .entry)) i ⌝ }
 {
     State(plan[6 + 3 * i])
+}
+
+fn is_done(colours: &[u8; 128], state: State) -> bool
+    requires { ⌜ state .0 < 128 ⌝ }
+    ensures { λ b. ⌜ b ≡ ltb 1 (getD (now (colours .entry)) (state .0) 0) ⌝ }
+{
+    let at = state.0 as usize;
+    1 < colours[at]
 }
 
 // Whether the search from a state meets no open state. A state is not seen (0), open (1) or done (2).
@@ -36,6 +45,10 @@ fn visit(plan: &[u8], index: &[u32; 416], colours: &mut [u8; 128], state: State)
     let mut i = first_of(index, state);
     while i < end {
         let next = plan_target(plan, i);
+        if is_done(colours, next) {
+            i += 1;
+            continue;
+        }
         if !visit(plan, index, colours, next) {
             return false;
         }

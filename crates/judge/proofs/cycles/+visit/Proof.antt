@@ -1,13 +1,14 @@
 -- The recursion `judge::cycles::visit` meets its contract. The measure is the number of states not seen. Of the loop: the targets of the transitions
 -- passed are settled, and no state is open that was not open as it began.
 use native.Mathlib.Omega.{arith}
-use mathlib.Core.Path.{_≡_, subst, _∙_}
+use mathlib.Core.Path.{_≡_, refl, sym, subst, _∙_}
 use Prim.Native.Nat.{ℕ, _<_, _≤_, _+_, _-_}
 use denote.Ref.{now}
 use lib.ListN.{getD, set}
-use borrow.Author.Tests.{not-true, not-false}
+use borrow.Author.Tests.{not-true, not-false, ltb-true}
 use Rattle.judge.specs.Deciding.{firstFrom}
-use Rattle.judge.specs.Searching.{unseen, Finished}
+use Rattle.sheet.specs.Plan.{target}
+use Rattle.judge.specs.Searching.{unseen, Searching, Finished}
 use Rattle.judge.proofs.Outgoing.{first-bound, end-place}
 use Rattle.judge.proofs.SearchSteps.{Walked, met-open, met-done, walk-start, fewer, walk-on, walk-next, walk-end, found}
 use borrow.Fn.Kinds.{In}
@@ -18,6 +19,7 @@ use Rattle.judge.proofs.cycles.+visit.Lts-visit as visit-lts
 use Rattle.judge.proofs.fields.end_of.Reads as end-of-reads
 use Rattle.judge.proofs.fields.first_of.Reads as first-of-reads
 use Rattle.judge.proofs.cycles.plan_target.Reads as plan-target-reads
+use Rattle.judge.proofs.cycles.is_done.Reads as is-done-reads
 use Rattle.judge.proofs.cycles.+visit.{statement}
 use Rattle.judge.proofs.cycles.+visit.Tie.{close}
 
@@ -32,7 +34,7 @@ visit-below t = and 3 visit-kinds.ps (falls 3 visit-kinds.ps _<_ μ-visit t) vis
 
 -- what the functions called ask and tell
 abbrev claims : ℕ → visit-lts.Claims
-claims t = (end-of-reads.Asked, end-of-reads.Learnt, first-of-reads.Asked, first-of-reads.Learnt, plan-target-reads.Asked, plan-target-reads.Learnt, visit-below t, visit.Post)
+claims t = (end-of-reads.Asked, end-of-reads.Learnt, first-of-reads.Asked, first-of-reads.Learnt, plan-target-reads.Asked, plan-target-reads.Learnt, is-done-reads.Asked, is-done-reads.Learnt, visit-below t, visit.Post)
 
 abbrev Inv-loop : visit-lts.InvT-loop
 Inv-loop plan index colours₀ at colour end i₀ colours i = (i₀ ≤ i) × Walked plan colours₀ colours i₀ i
@@ -90,17 +92,14 @@ module _ (t : ℕ) where
   plan-target-requires c κs =
       omega (arith, c .loop-test .taken, ends (c .before), first-bound _ (start (c .before) .pre .1 .indexed .kept) (start (c .before) .args .state .0 + 1), start (c .before) .pre .1 .indexed .kept .exact)
 
-  visit-requires : visit-lts.Need-visit-requires (claims t) (visit-at t) visit.Post Inv-loop μ-loop
-  visit-requires c κs =
-      let l = c .before .before .before in
-      let b = start l in (
-        omega (arith, b .pre .0, l .loop .inv .1 .none-forgotten, fewer _ _ _ _ (b .pre .1) (unseen-yet l)),
-        rw (c .before .plan-target .ensures)
-            (walk-on _ _ _ _ (b .pre .1) (l .loop .colours) (l .loop .i) (walked l) (omega (arith, begins l, l .loop .inv .0)) (omega (arith, ends l, c .before .before .loop-test .taken))),
-      )
+  -- the search may go on at the target of the transition that the loop is at
+  on : (c : visit-lts.At-loop (claims t) (visit-at t) visit.Post Inv-loop μ-loop) → c .loop .i < c .before .before .end-of .result → Searching (now (start c .args .plan)) (now (start c .args .index)) (c .loop .colours) (target (now (start c .args .plan)) (c .loop .i))
+  on c h = walk-on _ _ _ _ (start c .pre .1) (c .loop .colours) (c .loop .i) (walked c) (omega (arith, begins c, c .loop .inv .0)) (omega (arith, ends c, h))
 
-  returns-3 : visit-lts.Need-returns-3 (claims t) (visit-at t) visit.Post Inv-loop μ-loop
-  returns-3 c = found _ _ _ _ _ _ _ _ (c .before .visit .ensures) (not-true _ (c .if3 .taken))
+  is-done-requires : visit-lts.Need-is-done-requires (claims t) (visit-at t) visit.Post Inv-loop μ-loop
+  is-done-requires c κs =
+      let l = c .before .before .before in
+      omega (arith, c .before .plan-target .ensures, on l (c .before .before .loop-test .taken) .state-below, start l .pre .1 .indexed .kept .few-states)
 
   add-i : visit-lts.Need-add-i (claims t) (visit-at t) visit.Post Inv-loop μ-loop
   add-i c = omega (arith, c .before .before .before .before .loop-test .taken, c .before .before .before .before .before .before .before .end-of .ok)
@@ -110,11 +109,34 @@ module _ (t : ℕ) where
 
   loop-again : visit-lts.Need-loop-again (claims t) (visit-at t) visit.Post Inv-loop μ-loop
   loop-again c =
-      let l = c .before .before .before .before .before in (
+      let l = c .before .before .before .before .before in
+      let done : 1 < getD (l .loop .colours) (target (now (start l .args .plan)) (l .loop .i)) 0 =
+      subst (λ (k : ℕ). 1 < getD (l .loop .colours) k 0) (c .before .before .before .plan-target .ensures) (ltb-true 1 _ (sym (c .before .is-done .ensures) ∙ c .if3 .taken)) in
+      (omega (arith, l .loop .inv .0), walk-next _ _ _ _ _ _ (l .loop .inv .1) (met-done _ _ _ _ (on l (c .before .before .before .before .loop-test .taken)) done .finished refl))
+
+  visit-requires : visit-lts.Need-visit-requires (claims t) (visit-at t) visit.Post Inv-loop μ-loop
+  visit-requires c κs =
+      let l = c .before .before .before .before .before .before in (
+        omega (arith, start l .pre .0, l .loop .inv .1 .none-forgotten, fewer _ _ _ _ (start l .pre .1) (unseen-yet l)),
+        rw (c .before .before .before .before .plan-target .ensures) (on l (c .before .before .before .before .before .loop-test .taken)),
+      )
+
+  returns-3 : visit-lts.Need-returns-3 (claims t) (visit-at t) visit.Post Inv-loop μ-loop
+  returns-3 c = found _ _ _ _ _ _ _ _ (c .before .visit .ensures) (not-true _ (c .if4 .taken))
+
+  add-i-2 : visit-lts.Need-add-i-2 (claims t) (visit-at t) visit.Post Inv-loop μ-loop
+  add-i-2 c = omega (arith, c .before .before .before .before .before .before .before .loop-test .taken, c .before .before .before .before .before .before .before .before .before .before .end-of .ok)
+
+  loop-less-2 : visit-lts.Need-loop-less-2 (claims t) (visit-at t) visit.Post Inv-loop μ-loop
+  loop-less-2 c = omega (arith, c .before .before .before .before .before .before .before .loop-test .taken)
+
+  loop-again-2 : visit-lts.Need-loop-again-2 (claims t) (visit-at t) visit.Post Inv-loop μ-loop
+  loop-again-2 c =
+      let l = c .before .before .before .before .before .before .before .before in (
         omega (arith, l .loop .inv .0),
         walk-next _ _ _ _ _ _ (l .loop .inv .1)
-            (subst (λ (k : ℕ). Finished (now (start l .args .plan)) (l .loop .colours) (c .before .visit .last .1 .1 .0) k) (c .before .before .before .plan-target .ensures)
-            (c .before .visit .ensures .finished (not-false _ (c .if3 .left)))),
+            (subst (λ (k : ℕ). Finished (now (start l .args .plan)) (l .loop .colours) (c .before .visit .last .1 .1 .0) k) (c .before .before .before .before .before .before .plan-target .ensures)
+            (c .before .visit .ensures .finished (not-false _ (c .if4 .left)))),
       )
 
   element-write-colours-2 : visit-lts.Need-element-write-colours-2 (claims t) (visit-at t) visit.Post Inv-loop μ-loop
@@ -138,10 +160,14 @@ pub +visit-spec : {M : Type 1} → statement M
     (first-of-requires t)
     (loop-holds t)
     (plan-target-requires t)
-    (visit-requires t)
-    (returns-3 t)
+    (is-done-requires t)
     (add-i t)
     (loop-less t)
     (loop-again t)
+    (visit-requires t)
+    (returns-3 t)
+    (add-i-2 t)
+    (loop-less-2 t)
+    (loop-again-2 t)
     (element-write-colours-2 t)
     (returns-4 t))
