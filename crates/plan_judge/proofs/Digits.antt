@@ -38,7 +38,3 @@ at-most-twenty k n fits h =
 
 pub decimal-is : (k n : ℕ) → n < 18446744073709551616 → Fewest 10 1 n k → digits 10 k n ≡ decimalOf n
 decimal-is k n fits h = same-digits k 20 n (at-most-twenty k n fits h) h
-
--- a text that is made of two, each of which is known by another name
-pub joined : {a b c d e : List ℕ} → a ≡ b ++ c → b ≡ d → c ≡ e → a ≡ d ++ e
-joined {c = c} {d = d} p q r = p ∙ (ap (λ (l : List ℕ). l ++ c) q ∙ ap (λ (l : List ℕ). d ++ l) r)

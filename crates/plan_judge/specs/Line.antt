@@ -2,6 +2,7 @@
 use Prim.Native.Nat.{ℕ, zero, suc, _+_, _/_, _%_}
 use mathlib.Core.Bool.{Bool, true, false}
 use mathlib.Core.List.{List, [], _∷_, _++_}
+use lib.ListN.{length, take, drop}
 use lib.Dec.{ltb}
 use Rattle.sheet.specs.Bytes.{pick}
 use Rattle.sheet.specs.Refusals.{numberOf, placeOf}
@@ -35,3 +36,10 @@ refused = 114 ∷ 101 ∷ 102 ∷ 117 ∷ 115 ∷ 101 ∷ 100 ∷ []
 unfoldable pub lineOf : Queried → List ℕ
 lineOf (Judged v n) = wordOf v ++ space ++ decimalOf n ++ lineFeed
 lineOf (Refused r) = refused ++ space ++ decimalOf (numberOf r) ++ space ++ decimalOf (placeOf r) ++ lineFeed
+
+-- a buffer with a text put at an index, and with one put at its front: the other bytes are unchanged
+abbrev pub putAt : List ℕ → ℕ → List ℕ → List ℕ
+putAt out at text = take at out ++ text ++ drop (at + length text) out
+
+abbrev pub putFirst : List ℕ → List ℕ → List ℕ
+putFirst out text = text ++ drop (length text) out

@@ -5,8 +5,8 @@ use mathlib.Core.List.{List, _++_}
 use Prim.Native.Nat.{ℕ, _-_, _≤_, _+_}
 use native.Mathlib.Numerals.{add-one}
 use denote.Ref.{now}
-use lib.ListN.{length, set, getD, take, length-set}
-use lib.Seq.{paste, paste-zero, paste-suc, take-paste, take-length}
+use lib.ListN.{length, set, getD, take, drop, length-set}
+use lib.Seq.{paste, paste-zero, paste-suc, take-length}
 use Rattle.plan_judge.proofs.line.put.Statement.{statement}
 use Rattle.plan_judge.proofs.line.put.Tie as tie
 
@@ -54,9 +54,9 @@ returns c = let a = c .before .before .args in
     let i = c .before .loop .i in
     let e : i ≡ length (now (a .s)) = omega arith in (
       omega arith,
-      ap (take (a .at + i)) (c .before .loop .inv .2) ∙
-          (take-paste (now (a .out)) (a .at) (now (a .s)) i (omega arith) (omega arith) ∙
-          ap (λ (l : List ℕ). take (a .at) (now (a .out)) ++ l) (ap (λ (k : ℕ). take k (now (a .s))) e ∙ take-length (now (a .s)))),
+      c .before .loop .inv .2 ∙
+          (ap (paste (now (a .out)) (a .at) (now (a .s))) e ∙
+          ap (λ (l : List ℕ). take (a .at) (now (a .out)) ++ l ++ drop (a .at + length (now (a .s))) (now (a .out))) (take-length (now (a .s)))),
     )
 
 pub put-spec : {M : Type 1} → statement M

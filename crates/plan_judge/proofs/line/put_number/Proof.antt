@@ -1,10 +1,13 @@
 -- `plan_judge::line::put_number` meets its contract.
 use borrow.Author.Needs.{needs}
 use native.Mathlib.Omega.{arith}
-use mathlib.Core.Path.{refl, _∙_}
-use lib.ListN.{take}
+use Prim.Native.Nat.{ℕ, _+_}
+use mathlib.Core.Path.{ap, _∙_}
+use mathlib.Core.List.{List}
+use lib.ListN.{length}
 use denote.Ref.{now}
-use Rattle.plan_judge.proofs.Digits.{at-most-twenty, decimal-is, joined}
+use Rattle.plan_judge.specs.Line.{putAt}
+use Rattle.plan_judge.proofs.Digits.{at-most-twenty, decimal-is}
 use Rattle.plan_judge.proofs.line.put_number.Statement.{statement}
 use Rattle.plan_judge.proofs.line.put_number.Tie as tie
 
@@ -27,9 +30,10 @@ same-length c = search needs
 returns : tie.Need-returns
 returns c = let a = c .before .before .before .before .before .before .before .before .args in
     let d = c .before .before .before .before .before .decimal in
-    let p = c .before .before .put in (
-      omega (arith, p .ensures .0, d .ensures .0 .1, at-most-twenty _ _ (omega arith) (d .ensures .1 .0)),
-      joined {b = take (a .at) (now (a .out))} (p .ensures .1) refl (d .ensures .1 .1 ∙ decimal-is _ _ (omega arith) (d .ensures .1 .0)),
+    let p = c .before .before .put in
+    let e = d .ensures .1 .1 ∙ decimal-is _ _ (omega arith) (d .ensures .1 .0) in (
+      (p .ensures .0 ∙ ap (λ (l : List ℕ). a .at + length l) e, omega (arith, p .ensures .0, d .ensures .0 .1, at-most-twenty _ _ (omega arith) (d .ensures .1 .0))),
+      p .ensures .1 ∙ ap (putAt (now (a .out)) (a .at)) e,
     )
 
 pub put-number-spec : {M : Type 1} → statement M

@@ -2,8 +2,10 @@
 use borrow.Author.Needs.{needs}
 use native.Mathlib.Omega.{arith}
 use mathlib.Core.Path.{refl, ap}
-use Rattle.plan_judge.specs.Line.{decimalOf, lineOf}
-use Rattle.plan_judge.proofs.Digits.{joined}
+use mathlib.Core.List.{_++_}
+use denote.Ref.{now}
+use Rattle.plan_judge.specs.Line.{decimalOf, lineFeed, lineOf, refused, space}
+use Rattle.plan_judge.proofs.Texts.{Stands, after}
 use Rattle.plan_judge.proofs.line.put_refusal.Statement.{statement}
 use Rattle.plan_judge.proofs.line.put_refusal.Tie as tie
 
@@ -48,18 +50,18 @@ same-length c = search needs
 
 returns : tie.Need-returns
 unfolding lineOf
-returns c = let word = c .before .before .before .before .before .before .before .before .before .before .before .before .before .before .before .before .before .before .before .before .before .before .put in
+returns c = let a = c .before .before .before .before .before .before .before .before .before .before .before .before .before .before .before .before .before .before .before .before .before .before .before .before .before .before .args in
+    let word = c .before .before .before .before .before .before .before .before .before .before .before .before .before .before .before .before .before .before .before .before .before .before .put in
     let number = c .before .before .before .before .before .before .before .before .before .before .before .before .before .before .before .before .before .put-number in
     let gap = c .before .before .before .before .before .before .before .before .before .before .before .before .put2 in
     let place = c .before .before .before .before .before .before .before .put-number2 in
-    let end = c .before .before .put3 in (
-      omega (arith, end .ensures .0, place .ensures .0, gap .ensures .0, number .ensures .0, word .ensures .0),
-      joined (end .ensures .1)
-          (joined (place .ensures .1)
-          (joined (gap .ensures .1) (joined (number .ensures .1) (word .ensures .1) (ap decimalOf (c .before .before .before .before .before .before .before .before .before .before .before .before .before .before .before .before .before .before .before .number .ensures))) refl)
-          (ap decimalOf (c .before .before .before .before .before .before .before .before .before .place .ensures)))
-          refl,
-    )
+    let end = c .before .before .put3 in
+    let first : Stands (now (a .out)) _ _ (refused ++ space) = record { ends = word .ensures .0; holds = word .ensures .1 } in
+    let second = after (decimalOf _) first (number .ensures .0 .0) (number .ensures .1) (ap decimalOf (c .before .before .before .before .before .before .before .before .before .before .before .before .before .before .before .before .before .before .before .number .ensures)) in
+    let third = after space second (gap .ensures .0) (gap .ensures .1) refl in
+    let fourth = after (decimalOf _) third (place .ensures .0 .0) (place .ensures .1) (ap decimalOf (c .before .before .before .before .before .before .before .before .before .place .ensures)) in
+    let line = after lineFeed fourth (end .ensures .0) (end .ensures .1) refl in
+    ((line .ends, omega (arith, end .ensures .0, place .ensures .0 .1, gap .ensures .0, number .ensures .0 .1, word .ensures .0)), line .holds)
 
 pub put-refusal-spec : {M : Type 1} → statement M
 put-refusal-spec =

@@ -2,8 +2,10 @@
 use borrow.Author.Needs.{needs}
 use native.Mathlib.Omega.{arith}
 use mathlib.Core.Path.{refl}
-use Rattle.plan_judge.specs.Line.{lineOf}
-use Rattle.plan_judge.proofs.Digits.{joined}
+use mathlib.Core.List.{_++_}
+use denote.Ref.{now}
+use Rattle.plan_judge.specs.Line.{decimalOf, lineFeed, lineOf, space, wordOf}
+use Rattle.plan_judge.proofs.Texts.{Stands, after}
 use Rattle.plan_judge.proofs.line.put_verdict.Statement.{statement}
 use Rattle.plan_judge.proofs.line.put_verdict.Tie as tie
 
@@ -24,12 +26,13 @@ same-length c = search needs
 
 returns : tie.Need-returns
 unfolding lineOf
-returns c = let word = c .before .before .before .before .before .before .before .before .before .before .before .put-word in
+returns c = let a = c .before .before .before .before .before .before .before .before .before .before .before .before .before .before .args in
+    let word = c .before .before .before .before .before .before .before .before .before .before .before .put-word in
     let number = c .before .before .before .before .before .before .before .put-number in
-    let end = c .before .before .put in (
-      omega (arith, end .ensures .0, number .ensures .0, word .ensures .0),
-      joined (end .ensures .1) (joined (number .ensures .1) (word .ensures .1) refl) refl,
-    )
+    let end = c .before .before .put in
+    let first : Stands (now (a .out)) _ _ (wordOf (a .verdict) ++ space) = record { ends = word .ensures .0 .0; holds = word .ensures .1 } in
+    let line = after lineFeed (after (decimalOf (a .visits)) first (number .ensures .0 .0) (number .ensures .1) refl) (end .ensures .0) (end .ensures .1) refl in
+    ((line .ends, omega (arith, end .ensures .0, number .ensures .0 .1, word .ensures .0 .1)), line .holds)
 
 pub put-verdict-spec : {M : Type 1} → statement M
 put-verdict-spec =

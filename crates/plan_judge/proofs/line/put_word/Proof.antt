@@ -4,7 +4,9 @@ use native.Mathlib.Omega.{arith}
 use mathlib.Core.Path.{sym, ap, _∙_}
 use mathlib.Core.Bool.{Bool}
 use mathlib.Core.List.{_++_}
-use Rattle.plan_judge.specs.Line.{wordOf, space}
+use lib.ListN.{length}
+use denote.Ref.{now}
+use Rattle.plan_judge.specs.Line.{wordOf, space, putFirst}
 use Rattle.plan_judge.proofs.line.put_word.Statement.{statement}
 use Rattle.plan_judge.proofs.line.put_word.Tie as tie
 
@@ -18,8 +20,12 @@ same-length : tie.Need-same-length
 same-length c = search needs
 
 returns : tie.Need-returns
-returns c = let p = c .before .before .put in
-    (omega (arith, p .ensures .0), p .ensures .1 ∙ ap (λ (b : Bool). wordOf b ++ space) (sym (c .before .before .before .before .before .if1 .taken)))
+returns c = let a = c .before .before .before .before .before .before .before .args in
+    let p = c .before .before .put in
+    let e = sym (c .before .before .before .before .before .if1 .taken) in (
+      (p .ensures .0 ∙ ap (λ (b : Bool). length (wordOf b ++ space)) e, omega (arith, p .ensures .0)),
+      p .ensures .1 ∙ ap (λ (b : Bool). putFirst (now (a .out)) (wordOf b ++ space)) e,
+    )
 
 slice-aggregate-put-2 : tie.Need-slice-aggregate-put-2
 slice-aggregate-put-2 c = search needs
@@ -31,8 +37,12 @@ same-length-2 : tie.Need-same-length-2
 same-length-2 c = search needs
 
 returns-2 : tie.Need-returns-2
-returns-2 c = let p = c .before .before .put2 in
-    (omega (arith, p .ensures .0), p .ensures .1 ∙ ap (λ (b : Bool). wordOf b ++ space) (sym (c .before .before .before .before .before .if1 .left)))
+returns-2 c = let a = c .before .before .before .before .before .before .before .args in
+    let p = c .before .before .put2 in
+    let e = sym (c .before .before .before .before .before .if1 .left) in (
+      (p .ensures .0 ∙ ap (λ (b : Bool). length (wordOf b ++ space)) e, omega (arith, p .ensures .0)),
+      p .ensures .1 ∙ ap (λ (b : Bool). putFirst (now (a .out)) (wordOf b ++ space)) e,
+    )
 
 pub put-word-spec : {M : Type 1} → statement M
 put-word-spec =
