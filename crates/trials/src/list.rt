@@ -45,11 +45,8 @@ fn list_on(sheet: &[u8], states: &[u8], buf: &mut [u8; 65536], n: u16) {
     list_start(sheet, states, buf, n as usize);
 }
 
-pub fn answer() -> bool {
-    let mut sheet = io::large_buffer();
-    let mut states = io::large_buffer();
-    let mut table = io::large_buffer();
-    let Word::Got(s) = input::read_blob(&mut sheet) else {
+pub fn answer(sheet: &mut [u8; 65536], states: &mut [u8; 65536], table: &mut [u8; 65536]) -> bool {
+    let Word::Got(s) = input::read_blob(sheet) else {
         return false;
     };
     let Word::Got(n) = input::read_word() else {
@@ -58,15 +55,10 @@ pub fn answer() -> bool {
     let Byte::Got(b) = input::read_byte() else {
         return false;
     };
-    let Word::Got(q) = input::read_blob(&mut states) else {
+    let Word::Got(q) = input::read_blob(states) else {
         return false;
     };
-    input::fill(&mut table, n, b);
-    list_on(
-        input::part(&sheet, s),
-        input::part(&states, q),
-        &mut table,
-        n,
-    );
+    input::fill(table, n, b);
+    list_on(input::part(sheet, s), input::part(states, q), table, n);
     true
 }

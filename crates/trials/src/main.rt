@@ -10,31 +10,40 @@ mod write;
 
 use input::Byte;
 
-// Answers one request of the number given; false where the input cuts it short or the number is unknown.
-fn answer(number: u8) -> bool {
+// Answers one request of the number given; false where the input cuts it short or the number is unknown. The buffers hold what an earlier request left:
+// a request lends the calls only bytes that it has read or filled.
+fn answer(
+    number: u8,
+    first: &mut [u8; 65536],
+    second: &mut [u8; 65536],
+    third: &mut [u8; 65536],
+) -> bool {
     match number {
-        1 => read::answer(),
-        2 => guard::answer(),
-        3 => refer::answer(),
-        4 => list::answer(),
-        5 => query::answer(),
-        6 => write::answer(),
+        1 => read::answer(first),
+        2 => guard::answer(first),
+        3 => refer::answer(first),
+        4 => list::answer(first, second, third),
+        5 => query::answer(first, second),
+        6 => write::answer(first, second, third),
         _ => false,
     }
 }
 
-fn next() -> bool {
+fn next(first: &mut [u8; 65536], second: &mut [u8; 65536], third: &mut [u8; 65536]) -> bool {
     let number = input::read_byte();
     match number {
-        Byte::Got(b) => answer(b),
+        Byte::Got(n) => answer(n, first, second, third),
         Byte::Ended => false,
     }
 }
 
 // A proved loop has to end, so it counts its turns down, from a number that no run uses up.
 fn main() {
+    let mut first = io::large_buffer();
+    let mut second = io::large_buffer();
+    let mut third = io::large_buffer();
     let mut turns = u64::MAX;
-    while turns > 0 && next() {
+    while turns > 0 && next(&mut first, &mut second, &mut third) {
         turns -= 1;
     }
 }

@@ -49,18 +49,16 @@ fn query_on(sheet: &[u8], state: State, buf: &mut [u8; 65536], n: u16) {
     query_start(sheet, state, buf, n as usize);
 }
 
-pub fn answer() -> bool {
-    let mut sheet = io::large_buffer();
-    let mut table = io::large_buffer();
-    let Word::Got(s) = input::read_blob(&mut sheet) else {
+pub fn answer(sheet: &mut [u8; 65536], table: &mut [u8; 65536]) -> bool {
+    let Word::Got(s) = input::read_blob(sheet) else {
         return false;
     };
     let Byte::Got(b) = input::read_byte() else {
         return false;
     };
-    let Word::Got(n) = input::read_blob(&mut table) else {
+    let Word::Got(n) = input::read_blob(table) else {
         return false;
     };
-    query_on(input::part(&sheet, s), State(b), &mut table, n);
+    query_on(input::part(sheet, s), State(b), table, n);
     true
 }

@@ -17,7 +17,7 @@ fn write_bodies(b: Bodies) {
     write_part(b.rule);
 }
 
-fn nowhere() -> Part {
+fn empty_part() -> Part {
     Part {
         offset: 0,
         length: 0,
@@ -34,19 +34,18 @@ fn read(sheet: &[u8]) {
         }
         Read::Refused(r) => {
             output::refused(r);
-            write_part(nowhere());
-            write_part(nowhere());
-            write_part(nowhere());
+            write_part(empty_part());
+            write_part(empty_part());
+            write_part(empty_part());
         }
     }
     output::end_line();
 }
 
-pub fn answer() -> bool {
-    let mut sheet = io::large_buffer();
-    let Word::Got(n) = input::read_blob(&mut sheet) else {
+pub fn answer(sheet: &mut [u8; 65536]) -> bool {
+    let Word::Got(n) = input::read_blob(sheet) else {
         return false;
     };
-    read(input::part(&sheet, n));
+    read(input::part(sheet, n));
     true
 }

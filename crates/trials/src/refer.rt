@@ -20,11 +20,10 @@ fn refer(sheet: &[u8]) {
     output::end_line();
 }
 
-pub fn answer() -> bool {
-    let mut sheet = io::large_buffer();
-    let Word::Got(n) = input::read_blob(&mut sheet) else {
+pub fn answer(sheet: &mut [u8; 65536]) -> bool {
+    let Word::Got(n) = input::read_blob(sheet) else {
         return false;
     };
-    refer(input::part(&sheet, n));
+    refer(input::part(sheet, n));
     true
 }

@@ -41,18 +41,15 @@ fn write_to(plan: &[u8], actions: &[u8], rule: &[u8], buf: &mut [u8; 65536], n: 
     write_start(plan, actions, rule, buf, n as usize);
 }
 
-pub fn answer() -> bool {
-    let mut plan = io::large_buffer();
-    let mut actions = io::large_buffer();
-    let mut rule = io::large_buffer();
+pub fn answer(plan: &mut [u8; 65536], actions: &mut [u8; 65536], rule: &mut [u8; 65536]) -> bool {
     let mut out = io::large_buffer();
-    let Word::Got(p) = input::read_blob(&mut plan) else {
+    let Word::Got(p) = input::read_blob(plan) else {
         return false;
     };
-    let Word::Got(a) = input::read_blob(&mut actions) else {
+    let Word::Got(a) = input::read_blob(actions) else {
         return false;
     };
-    let Word::Got(r) = input::read_blob(&mut rule) else {
+    let Word::Got(r) = input::read_blob(rule) else {
         return false;
     };
     let Word::Got(n) = input::read_word() else {
@@ -63,9 +60,9 @@ pub fn answer() -> bool {
     };
     input::fill(&mut out, n, b);
     write_to(
-        input::part(&plan, p),
-        input::part(&actions, a),
-        input::part(&rule, r),
+        input::part(plan, p),
+        input::part(actions, a),
+        input::part(rule, r),
         &mut out,
         n,
     );

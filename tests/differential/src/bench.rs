@@ -133,6 +133,7 @@ fn list(sheets: &[Vec<u8>], states: &[u8]) -> Vec<Request> {
 }
 
 pub fn bench(trials: &str, numbers: &[u8], out: &str) -> i32 {
+    let load = load();
     let me = std::env::current_exe().expect("the path of this program");
     let dir: PathBuf = me.parent().expect("a folder").join("bench");
     if let Err(e) = std::fs::create_dir_all(&dir).and_then(|_| std::fs::create_dir_all(out)) {
@@ -240,7 +241,7 @@ pub fn bench(trials: &str, numbers: &[u8], out: &str) -> i32 {
             rows.push(row);
         }
     }
-    let page = page(&rows, &missing, &start, &start_time, &each);
+    let page = page(&rows, &missing, &start, &start_time, &each, &load);
     let svg = plot(&rows);
     for (name, text) in [("BENCHMARK.md", page), ("benchmark.svg", svg)] {
         let p = Path::new(out).join(name);
@@ -275,7 +276,14 @@ fn cpu() -> String {
     line.map_or("an unnamed processor".into(), |v| v.trim().to_string())
 }
 
-fn page(rows: &[Row], missing: &[&str], start: &[f64], start_time: &[f64], each: &[f64]) -> String {
+/// How busy the machine is with other work, read before the first run.
+fn load() -> String {
+    let text = std::fs::read_to_string("/proc/loadavg").unwrap_or_default();
+    let cores = std::thread::available_parallelism().map_or(1, |n| n.get());
+    format!("{} on {cores} cores", text.split(' ').next().filter(|v| !v.is_empty()).unwrap_or("unknown"))
+}
+
+fn page(rows: &[Row], missing: &[&str], start: &[f64], start_time: &[f64], each: &[f64], load: &str) -> String {
     let mut o = String::new();
     o += "# Benchmark: the trial driver against a plain Rust program\n\n";
     o += "Made by one command, in `tests/differential` (this page and the plot are written anew by it):\n\n";
@@ -293,7 +301,8 @@ fn page(rows: &[Row], missing: &[&str], start: &[f64], start_time: &[f64], each:
     let _ = writeln!(
         o,
         "An empty run: driver {} instructions and {:.2} ms, Rust {} and {:.2} ms. A request with a sheet of no bytes, which is\n\
-         not in the figures below: driver {} instructions, Rust {}. Processor: {}.\n",
+         not in the figures below: driver {} instructions, Rust {}. Processor: {};\n\
+         load average when the runs began: {load}. Other work on the machine lengthens times, not instructions.\n",
         grouped(start[0]), start_time[0] * 1e3, grouped(start[1]), start_time[1] * 1e3, grouped(each[0]), grouped(each[1]), cpu()
     );
     if !missing.is_empty() {

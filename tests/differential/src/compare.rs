@@ -158,12 +158,59 @@ fn differs(trials: &str, request: &Request) -> bool {
     }
 }
 
+/// What was made of rules with three binders or more, least and greatest in turn.
+#[derive(Default)]
+struct Turns {
+    /// Guard checks, references.
+    made: [u64; 2],
+    /// By the number of binders.
+    binders: [u64; 7],
+    loops: u64,
+    guarded: u64,
+    /// References by how many binders tell.
+    telling: [u64; 7],
+}
+
+impl Turns {
+    fn count(&mut self, r: &Request) {
+        let (kind, sheet) = match r {
+            Request::Guard(s) => (0, s),
+            Request::Reference(s) => (1, s),
+            _ => return,
+        };
+        let Ok(ok) = oracle::read(sheet) else { return };
+        let n = gen::turns(&ok.parts);
+        if n < 3 {
+            return;
+        }
+        self.made[kind] += 1;
+        self.binders[n] += 1;
+        self.loops += u64::from(oracle::has_loop(&ok.parts, &oracle::successors(&ok.parts)));
+        self.guarded += u64::from(oracle::guarded(&ok.parts));
+        if kind == 1 {
+            self.telling[gen::telling(sheet)] += 1;
+        }
+    }
+}
+
+impl std::fmt::Display for Turns {
+    fn fmt(&self, f: &mut std::fmt::Formatter) -> std::fmt::Result {
+        let list = |v: &[u64], from: usize| {
+            v.iter().enumerate().skip(from).map(|(i, n)| format!(" {i}:{n}")).collect::<String>()
+        };
+        writeln!(f, "least and greatest in turn, three binders or more: {} guard checks, {} references", self.made[0], self.made[1])?;
+        writeln!(f, "  binders{}; {} with a loop in the plan, {} guarded", list(&self.binders, 3), self.loops, self.guarded)?;
+        write!(f, "  references by how many binders tell (exchanged, the word is another):{}", list(&self.telling, 0))
+    }
+}
+
 const BATCH: u64 = 100;
 
 pub fn compare(trials: &str, seed: u64, count: u64, numbers: &[u8], shrinking: bool) -> i32 {
     println!("seed {seed}, {count} requests of the kinds {numbers:?}");
     let begun = Instant::now();
     let mut tally: std::collections::BTreeMap<(u8, String), u64> = Default::default();
+    let mut turns = Turns::default();
     let (mut done, mut differences, mut told) = (0u64, 0u64, 0);
     while done < count {
         let n = BATCH.min(count - done);
@@ -181,6 +228,7 @@ pub fn compare(trials: &str, seed: u64, count: u64, numbers: &[u8], shrinking: b
         };
         let mut rest = &out[..];
         for (k, r) in batch.iter().enumerate() {
+            turns.count(r);
             let want = protocol::expected(r);
             let first = String::from_utf8_lossy(&want);
             let refusal = first.split([' ', '\n']).nth(1).unwrap_or("").to_string();
@@ -235,6 +283,7 @@ pub fn compare(trials: &str, seed: u64, count: u64, numbers: &[u8], shrinking: b
         line += &format!(" {refusal}:{n}");
     }
     println!("refusal numbers met (in a request's first line):{line}");
+    println!("{turns}");
     println!("seed {seed}: {done} requests compared, {differences} differences, {:.1} s", begun.elapsed().as_secs_f64());
     i32::from(differences > 0)
 }

@@ -572,6 +572,180 @@ pub fn deep(r: &mut Rng, states: usize, nodes: usize) -> Parts {
     p
 }
 
+/// How many binders of a sheet tell: with its kind exchanged, the reference word is another.
+pub fn telling(sheet: &[u8]) -> usize {
+    let Ok(ok) = oracle::read(sheet) else { return 0 };
+    let was = oracle::reference(sheet);
+    let tells = |node: usize| {
+        let mut s = sheet.to_vec();
+        let kind = &mut s[ok.bodies[2].0 + 1 + 3 * node];
+        *kind = 15 - *kind;
+        oracle::reference(&s) != was
+    };
+    ok.parts.binder_node[..ok.parts.binders].iter().filter(|&&node| tells(node)).count()
+}
+
+/// Three to six binders one inside the other, least and greatest in turn, over a plan of 2 to 5 states, so that plain
+/// iteration of the deepest ends soon. Below the innermost binder stands every variable, and some parts stand aside on the
+/// way. Of a few sheets made so, the one in which the most binders tell.
+fn alternating(r: &mut Rng) -> Vec<u8> {
+    let made: Vec<Vec<u8>> = (0..r.pick(&[1, 8, 40])).map(|_| alternation(r).sheet()).collect();
+    made.into_iter().max_by_key(|s| telling(s)).expect("one at least")
+}
+
+fn alternation(r: &mut Rng) -> Parts {
+    let states = r.range(2, 5);
+    let size = Size {
+        states,
+        actions: r.range(1, 6),
+        transitions: r.range(1, 5 * states),
+        entries: r.range(1, 8),
+        nodes: 1,
+        binders: 0,
+        loops: r.chance(70),
+        guarded: false,
+    };
+    let mut p = valid(r, size);
+    if r.chance(60) {
+        // an entry for each action, so that the transitions fall into kinds
+        p.entries = (0..p.actions).map(|a| [2, a, 0]).collect();
+    }
+    let (binders, guarded) = (r.range(3, 6) as u8, r.chance(50));
+    let mut t = Turns { entries: p.entries.len(), binders, guarded, first: r.below(2) as u8, r, nodes: Vec::new() };
+    t.binder(0);
+    Parts { nodes: t.nodes, ..p }
+}
+
+/// The rule of `alternation`, in preorder.
+struct Turns<'a> {
+    r: &'a mut Rng,
+    entries: usize,
+    binders: u8,
+    /// Each variable stands below a modal node of its own.
+    guarded: bool,
+    first: u8,
+    nodes: Vec<[u8; 3]>,
+}
+
+impl Turns<'_> {
+    fn next(&self) -> u8 {
+        self.nodes.len() as u8 + 1
+    }
+
+    fn modal(&mut self) {
+        let node = [4 + self.r.below(2) as u8, self.r.below(self.entries) as u8, self.next()];
+        self.nodes.push(node);
+    }
+
+    /// An "or" or an "and"; its second child is set by `second`.
+    fn pair(&mut self) -> usize {
+        let node = [2 + self.r.below(2) as u8, self.next(), 0];
+        self.nodes.push(node);
+        self.nodes.len() - 1
+    }
+
+    fn second(&mut self, pair: usize) {
+        self.nodes[pair][2] = self.nodes.len() as u8;
+    }
+
+    fn variable(&mut self, k: u8) {
+        if self.guarded || self.r.chance(40) {
+            self.modal();
+        }
+        self.nodes.push([6, k, 0]);
+    }
+
+    fn constant(&mut self) {
+        if self.r.chance(50) {
+            self.modal();
+        }
+        let kind = self.r.below(2) as u8;
+        self.nodes.push([kind, 0, 0]);
+    }
+
+    /// A leaf below binders 0 to k.
+    fn aside(&mut self, k: u8) {
+        if self.r.chance(60) {
+            let v = self.r.range(0, k as usize) as u8;
+            self.variable(v);
+        } else {
+            self.constant();
+        }
+    }
+
+    fn binder(&mut self, k: u8) {
+        let node = [7 + (self.first + k) % 2, k, self.next()];
+        self.nodes.push(node);
+        if self.r.chance(30) {
+            self.modal();
+        }
+        match self.r.below(4) {
+            0 => {
+                let pair = self.pair();
+                self.aside(k);
+                self.second(pair);
+                self.below(k);
+            }
+            1 => {
+                let pair = self.pair();
+                self.below(k);
+                self.second(pair);
+                self.aside(k);
+            }
+            _ => self.below(k),
+        }
+    }
+
+    fn below(&mut self, k: u8) {
+        if k + 1 < self.binders {
+            return self.binder(k + 1);
+        }
+        // every variable once, in any order, and at the end a constant now and then; often all below "some" and joined by
+        // "or", or below "every" and joined by "and", so that a way round a loop is judged by the outermost variable on it
+        let mut order: Vec<u8> = (0..self.binders).collect();
+        self.r.shuffle(&mut order);
+        let (from, alike) = (self.nodes.len(), self.r.chance(60));
+        let end = self.r.chance(30);
+        for (i, &v) in order.iter().enumerate() {
+            let last = i + 1 == order.len() && !end;
+            let pair = if last { None } else { Some(self.pair()) };
+            if alike {
+                self.modal();
+                self.nodes.push([6, v, 0]);
+            } else {
+                self.variable(v);
+            }
+            if let Some(pair) = pair {
+                self.second(pair);
+            }
+        }
+        if end {
+            self.constant();
+        }
+        if alike {
+            let and = self.r.below(2) as u8;
+            for n in &mut self.nodes[from..] {
+                if (2..6).contains(&n[0]) {
+                    n[0] = n[0] / 2 * 2 + and;
+                }
+            }
+        }
+    }
+}
+
+/// How many binders a rule has, where they stand one inside the other, least and greatest in turn, and the innermost has
+/// every variable below it; 0 for any other rule.
+pub fn turns(p: &oracle::Parts) -> usize {
+    let nodes: Vec<[u8; 3]> = p.nodes.chunks_exact(3).map(|c| [c[0], c[1], c[2]]).collect();
+    let binders: Vec<usize> = (0..nodes.len()).filter(|&i| nodes[i][0] >= 7).collect();
+    let Some(&inner) = binders.last() else { return 0 };
+    let below = &nodes[inner..part_end(&nodes, inner)];
+    let nested = binders.iter().all(|&b| part_end(&nodes, b) > inner);
+    let in_turn = binders.windows(2).all(|w| nodes[w[0]][0] != nodes[w[1]][0]);
+    let used = (0..binders.len() as u8).all(|k| below.iter().any(|n| n[0] == 6 && n[1] == k));
+    if nested && in_turn && used { binders.len() } else { 0 }
+}
+
 /// A sheet; `whole` percent of them are left valid.
 fn sheet(r: &mut Rng, whole: usize) -> Vec<u8> {
     if r.chance(1) {
@@ -665,7 +839,9 @@ pub fn request_at(seed: u64, index: u64, numbers: &[u8]) -> Request {
 fn request(r: &mut Rng, numbers: &[u8]) -> Request {
     match r.pick(numbers) {
         1 => Request::Read(sheet(r, 20)),
+        2 if r.chance(20) => Request::Guard(alternating(r)),
         2 => Request::Guard(sheet(r, 70)),
+        3 if r.chance(30) => Request::Reference(alternating(r)),
         3 => {
             let s = sheet(r, 75);
             if let Ok(ok) = oracle::read(&s) {

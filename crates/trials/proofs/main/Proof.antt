@@ -6,10 +6,19 @@ use Rattle.trials.proofs.main.Statement.{statement}
 use Rattle.trials.proofs.main.Tie as tie
 
 abbrev Inv-loop : tie.InvT-loop
-Inv-loop turns₀ turns = Unit {0}
+Inv-loop first₀ second₀ third₀ turns₀ first second third turns = Unit {0}
 
 abbrev μ-loop : tie.MeasureT-loop
-μ-loop turns₀ turns = turns
+μ-loop first₀ second₀ third₀ turns₀ first second third turns = turns
+
+large-buffer-requires : tie.Need-large-buffer-requires Inv-loop μ-loop
+large-buffer-requires c κs = tt
+
+large-buffer-requires-2 : tie.Need-large-buffer-requires-2 Inv-loop μ-loop
+large-buffer-requires-2 c κs = tt
+
+large-buffer-requires-3 : tie.Need-large-buffer-requires-3 Inv-loop μ-loop
+large-buffer-requires-3 c κs = tt
 
 loop-holds : tie.Need-loop-holds Inv-loop μ-loop
 loop-holds c = tt
@@ -33,4 +42,5 @@ returns-2 : tie.Need-returns-2 Inv-loop μ-loop
 returns-2 c = tt
 
 pub main-spec : {M : Type 1} → statement M
-main-spec = tie.close (tie.spec Inv-loop μ-loop loop-holds next-requires sub-turns loop-less loop-again returns returns-2)
+main-spec =
+    tie.close (tie.spec Inv-loop μ-loop large-buffer-requires large-buffer-requires-2 large-buffer-requires-3 loop-holds next-requires sub-turns loop-less loop-again returns returns-2)
