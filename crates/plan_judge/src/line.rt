@@ -67,7 +67,7 @@ fn put_refusal(x: Refusal, out: &mut [u8]) -> usize
 }
 
 // Puts the line of an answer at the start of out, and answers its length.
-pub fn put_line(answer: Queried, out: &mut [u8]) -> usize
+pub(crate) fn put_line(answer: Queried, out: &mut [u8]) -> usize
     requires { ⌜ 50 ≤ length (now out) ⌝ }
     ensures { λ r. ⌜ Counts r (now (out .exit)) ⌝ }
     ensures { λ r. ⌜ r ≡ length (lineOf answer) ⌝ }
