@@ -31,6 +31,7 @@ pub mod Exchange
 pub mod Demand3
 pub mod Examples
 pub mod FieldSteps
+pub mod BinderSteps
 pub mod PrepareSteps
 pub mod QuerySteps
 pub mod Outgoing

@@ -27,7 +27,7 @@ use Rattle.judge.specs.Preparing.{SameBefore, Headed, Binders, AllBefore
 -- ---- where the transitions of a state begin
 
 -- a search may begin at i where the test fails before it
-begin : (test : ℕ → Bool) (n i : ℕ) → i ≤ n → ((k : ℕ) → k < i → test k ≡ false) → lowestFrom test (n - i) i ≡ lowest test n
+pub begin : (test : ℕ → Bool) (n i : ℕ) → i ≤ n → ((k : ℕ) → k < i → test k ≡ false) → lowestFrom test (n - i) i ≡ lowest test n
 begin test n zero h none = lowest-start test n
 begin test n (suc i) h none =
     rw (← add-one) (sym (lowest-next test n i (omega arith) (none i (omega arith))) ∙ begin test n i (omega arith) (λ k l. none k (omega arith)))
@@ -145,6 +145,9 @@ headed s l o n m size p q r =
 
 pub few-states : (s : List ℕ) → sheetCheck s ≡ Passed → stateCount (planBody s) ≤ 128
 few-states s e = accepted-iff s .0 e .bodies-kept .plan-kept .few-states
+
+pub few-nodes : (s : List ℕ) → sheetCheck s ≡ Passed → nodeCount (ruleBody s) ≤ 64
+few-nodes s e = accepted-iff s .0 e .bodies-kept .rule-kept .few-nodes
 
 module _ (s : List ℕ) (e : sheetCheck s ≡ Passed) where
   steps : {first second third fourth : List ℕ} → Headed s first → Binders (ruleBody s) first second → Firsts (planBody s) second third → Masks (planBody s) (actionsBody s) third fourth → Prepared s fourth

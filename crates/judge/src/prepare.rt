@@ -1,8 +1,8 @@
 // Preparing: the numbers that are worked out once for a query.
 use calculus::meeting::meeting;
 use sheet::Action;
+use sheet::Node;
 use sheet::State;
-use sheet::Variable;
 use sheet::plan::action_count;
 use sheet::plan::state_count;
 use sheet::plan::transition;
@@ -11,12 +11,16 @@ use sheet::reader::actions_body;
 use sheet::reader::plan_body;
 use sheet::reader::rule_body;
 use sheet::rule::binder_count;
-use sheet::rule::binder_node;
+use sheet::rule::node;
 use sheet::rule::node_count;
 ghost use mathlib.Core.Path.{_≡_};
-ghost use Prim.Native.Nat.{_<_, _≤_};
+ghost use mathlib.Core.Bool.{_&&_};
+ghost use Prim.Native.Nat.{_≤_};
 ghost use lib.ListN.{length};
+ghost use lib.Dec.{leb};
+ghost use Rattle.sheet.specs.Bytes.{lowest};
 ghost use Rattle.sheet.specs.Plan.{stateCount, origin, label};
+ghost use Rattle.sheet.specs.Rule.{nodeCount, isBinder};
 ghost use Rattle.sheet.specs.Reading.{sheetCheck};
 ghost use Rattle.sheet.specs.declared.Check.the-variants.{Passed};
 ghost use Rattle.judge.specs.Deciding.{firstFrom, Prepared};
@@ -65,15 +69,44 @@ fn put_head(sheet: &[u8], index: &mut [u32; 416])
     index[2] = binder_count(rule) as u32 + 1;
 }
 
+fn is_binder(rule: &[u8], n: Node) -> bool
+    ensures { λ b. ⌜ b ≡ isBinder (now (rule .entry)) (n .0) ⌝ }
+{
+    let fields = node(rule, n);
+    let kind = fields.kind;
+    if 7 <= kind {
+        return kind < 9;
+    }
+    false
+}
+
+// The first binder from a node on, or the number of nodes where none is left.
+fn next_binder(rule: &[u8], from: Node) -> Node
+    ensures { λ r. ⌜ r .0 ≡ lowest (λ n. leb (from .0) n && isBinder (now (rule .entry)) n) (nodeCount (now (rule .entry))) ⌝ }
+{
+    let count = node_count(rule);
+    let first = from.0;
+    let mut n = first;
+    while n < count {
+        if is_binder(rule, Node(n)) {
+            return Node(n);
+        }
+        n += 1;
+    }
+    Node(count)
+}
+
 // Places 3 to 8: the binders' nodes.
 fn put_binders(rule: &[u8], index: &mut [u32; 416])
-    requires { ⌜ length (now index) ≡ 416 ⌝ }
+    requires { ⌜ (nodeCount (now rule) ≤ 64) × (length (now index) ≡ 416) ⌝ }
     ensures { λ _. ⌜ Binders (now (rule .entry)) (now (index .entry)) (now (index .exit)) ⌝ }
 {
-    let mut k: u8 = 0;
+    let mut n: u8 = 0;
+    let mut k: usize = 0;
     while k < 6 {
-        let node = binder_node(rule, Variable(k));
-        index[3 + k as usize] = node.0 as u32;
+        let binder = next_binder(rule, Node(n));
+        index[3 + k] = binder.0 as u32;
+        n = binder.0 + 1;
         k += 1;
     }
 }

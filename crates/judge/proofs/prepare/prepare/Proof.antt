@@ -3,7 +3,8 @@ use native.Mathlib.Omega.{arith}
 use mathlib.Core.Path.{ap}
 use denote.Ref.{now}
 use Rattle.sheet.specs.Plan.{stateCount}
-use Rattle.judge.proofs.PrepareSteps.{few-states, prepared}
+use Rattle.sheet.specs.Rule.{nodeCount}
+use Rattle.judge.proofs.PrepareSteps.{few-states, few-nodes, prepared}
 use borrow.Author.Needs.{needs}
 use Rattle.judge.proofs.prepare.prepare.Statement.{statement}
 use Rattle.judge.proofs.prepare.prepare.Tie as tie
@@ -18,7 +19,9 @@ rule-body-requires : tie.Need-rule-body-requires
 rule-body-requires c κs = search needs
 
 put-binders-requires : tie.Need-put-binders-requires
-put-binders-requires c κs = search needs
+put-binders-requires c κs =
+    let b = c .before .before .before .before .before .before in
+    (omega (arith, few-nodes (now (b .args .sheet)) (b .pre), ap nodeCount (c .before .rule-body .ensures)), c .before .before .put-head .ensures .size)
 
 put-firsts-requires : tie.Need-put-firsts-requires
 put-firsts-requires c κs =
