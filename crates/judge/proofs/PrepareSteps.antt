@@ -16,7 +16,7 @@ use Rattle.sheet.specs.Contents.{headLength, ruleLength, ruleOffset, planBody, 
 use Rattle.sheet.specs.Plan.{stateCount, transitionCount, origin, label}
 use Rattle.sheet.specs.Rule.{nodeCount}
 use Rattle.sheet.specs.Reading.{sheetCheck}
-use Rattle.sheet.specs.Rules.{SheetKept}
+use Rattle.sheet.specs.Rules.{SheetKept, PlanKept}
 use Rattle.sheet.specs.declared.Check.the-variants.{Passed}
 use Rattle.sheet.proofs.Accepted.{accepted-iff, plan-length, actions-length, kept-lengths}
 use Rattle.sheet.proofs.Lowest.{lowest-start, lowest-next, lowest-below, lowest-bound}
@@ -143,8 +143,11 @@ headed s l o n m size p q r =
 
 -- ---- all steps together
 
-pub few-states : (s : List ℕ) → sheetCheck s ≡ Passed → stateCount (planBody s) ≤ 128
-few-states s e = accepted-iff s .0 e .bodies-kept .plan-kept .few-states
+pub plan-kept : (s : List ℕ) → sheetCheck s ≡ Passed → PlanKept (planBody s)
+plan-kept s e = accepted-iff s .0 e .bodies-kept .plan-kept
+
+few-states : (s : List ℕ) → sheetCheck s ≡ Passed → stateCount (planBody s) ≤ 128
+few-states s e = plan-kept s e .few-states
 
 pub few-nodes : (s : List ℕ) → sheetCheck s ≡ Passed → nodeCount (ruleBody s) ≤ 64
 few-nodes s e = accepted-iff s .0 e .bodies-kept .rule-kept .few-nodes

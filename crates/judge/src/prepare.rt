@@ -5,7 +5,6 @@ use sheet::Node;
 use sheet::State;
 use sheet::plan::action_count;
 use sheet::plan::state_count;
-use sheet::plan::transition;
 use sheet::plan::transition_count;
 use sheet::reader::actions_body;
 use sheet::reader::plan_body;
@@ -15,11 +14,12 @@ use sheet::rule::node;
 use sheet::rule::node_count;
 ghost use mathlib.Core.Path.{_≡_};
 ghost use mathlib.Core.Bool.{_&&_};
-ghost use Prim.Native.Nat.{_≤_};
+ghost use Prim.Native.Nat.{_+_, _*_, _<_, _≤_};
 ghost use lib.ListN.{length};
 ghost use lib.Dec.{leb};
 ghost use Rattle.sheet.specs.Bytes.{lowest};
-ghost use Rattle.sheet.specs.Plan.{stateCount, origin, label};
+ghost use Rattle.sheet.specs.Plan.{origin, label};
+ghost use Rattle.sheet.specs.Rules.{PlanKept};
 ghost use Rattle.sheet.specs.Rule.{nodeCount, isBinder};
 ghost use Rattle.sheet.specs.Reading.{sheetCheck};
 ghost use Rattle.sheet.specs.declared.Check.the-variants.{Passed};
@@ -27,22 +27,24 @@ ghost use Rattle.judge.specs.Deciding.{firstFrom, Prepared};
 ghost use Rattle.judge.specs.Preparing.{AllBefore, Used, Headed, Binders, Firsts, Masks};
 
 fn origin_at(plan: &[u8], i: u16) -> State
+    requires { ⌜ 6 + 3 * i < length (now plan) ⌝ }
     ensures { λ r. ⌜ r .0 ≡ origin (now (plan .entry)) i ⌝ }
 {
-    let t = transition(plan, i);
-    t.from
+    let at = 4 + 3 * (i as usize);
+    State(plan[at])
 }
 
 fn label_at(plan: &[u8], i: u16) -> Action
+    requires { ⌜ 6 + 3 * i < length (now plan) ⌝ }
     ensures { λ r. ⌜ r .0 ≡ label (now (plan .entry)) i ⌝ }
 {
-    let t = transition(plan, i);
-    t.action
+    let at = 5 + 3 * (i as usize);
+    Action(plan[at])
 }
 
 // Where the transitions of a state or of a later one begin; those before at are of earlier states.
 fn first_from(plan: &[u8], state: State, at: u16) -> u16
-    requires { ⌜ AllBefore (now plan) (state .0) at ⌝ }
+    requires { ⌜ PlanKept (now plan) × AllBefore (now plan) (state .0) at ⌝ }
     ensures { λ r. ⌜ r ≡ firstFrom (now (plan .entry)) (state .0) ⌝ }
 {
     let least = state.0;
@@ -113,7 +115,7 @@ fn put_binders(rule: &[u8], index: &mut [u32; 416])
 
 // From place 16 on: where each state's transitions begin, and where the last one's end: first_from finds that by the number S, which is of no state.
 fn put_firsts(plan: &[u8], index: &mut [u32; 416])
-    requires { ⌜ (stateCount (now plan) ≤ 128) × (length (now index) ≡ 416) ⌝ }
+    requires { ⌜ PlanKept (now plan) × (length (now index) ≡ 416) ⌝ }
     ensures { λ _. ⌜ Firsts (now (plan .entry)) (now (index .entry)) (now (index .exit)) ⌝ }
 {
     let states = state_count(plan);
@@ -128,6 +130,7 @@ fn put_firsts(plan: &[u8], index: &mut [u32; 416])
 
 // A 1 for each action that occurs.
 fn used_actions(plan: &[u8]) -> [u8; 256]
+    requires { ⌜ PlanKept (now plan) ⌝ }
     ensures { λ used. ⌜ Used (now (plan .entry)) used ⌝ }
 {
     let count = transition_count(plan);
@@ -144,7 +147,7 @@ fn used_actions(plan: &[u8]) -> [u8; 256]
 
 // From place 160 on: which formulas each action that occurs meets.
 fn put_masks(plan: &[u8], actions: &[u8], index: &mut [u32; 416])
-    requires { ⌜ length (now index) ≡ 416 ⌝ }
+    requires { ⌜ PlanKept (now plan) × (length (now index) ≡ 416) ⌝ }
     ensures { λ _. ⌜ Masks (now (plan .entry)) (now (actions .entry)) (now (index .entry)) (now (index .exit)) ⌝ }
 {
     let count = action_count(plan);

@@ -23,10 +23,10 @@ transition-count-requires : tie.Need-transition-count-requires Inv-loop μ-loop
 transition-count-requires c κs = search needs
 
 loop-holds : tie.Need-loop-holds Inv-loop μ-loop
-loop-holds c = (omega (arith, c .before .before .pre .among), go-on _ _ _ _ (c .before .before .pre) (c .transition-count .ensures))
+loop-holds c = (omega (arith, c .before .before .pre .1 .among), go-on _ _ _ _ (c .before .before .pre .1) (c .transition-count .ensures))
 
 origin-at-requires : tie.Need-origin-at-requires Inv-loop μ-loop
-origin-at-requires c κs = search needs
+origin-at-requires c κs = omega (arith, c .before .before .before .before .pre .0 .exact)
 
 returns : tie.Need-returns Inv-loop μ-loop
 returns c =

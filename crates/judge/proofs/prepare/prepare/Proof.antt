@@ -1,10 +1,10 @@
 -- `judge::prepare::prepare` meets its contract.
 use native.Mathlib.Omega.{arith}
-use mathlib.Core.Path.{ap}
+use mathlib.Core.Path.{sym, ap, subst}
 use denote.Ref.{now}
-use Rattle.sheet.specs.Plan.{stateCount}
+use Rattle.sheet.specs.Rules.{PlanKept}
 use Rattle.sheet.specs.Rule.{nodeCount}
-use Rattle.judge.proofs.PrepareSteps.{few-states, few-nodes, prepared}
+use Rattle.judge.proofs.PrepareSteps.{plan-kept, few-nodes, prepared}
 use borrow.Author.Needs.{needs}
 use Rattle.judge.proofs.prepare.prepare.Statement.{statement}
 use Rattle.judge.proofs.prepare.prepare.Tie as tie
@@ -26,13 +26,15 @@ put-binders-requires c κs =
 put-firsts-requires : tie.Need-put-firsts-requires
 put-firsts-requires c κs =
     let b = c .before .before .before .before .before .before .before .before in
-    (omega (arith, few-states (now (b .args .sheet)) (b .pre), ap stateCount (c .before .before .before .before .before .before .plan-body .ensures)), c .before .put-binders .ensures .size)
+    (subst PlanKept (sym (c .before .before .before .before .before .before .plan-body .ensures)) (plan-kept (now (b .args .sheet)) (b .pre)), c .before .put-binders .ensures .size)
 
 actions-body-requires : tie.Need-actions-body-requires
 actions-body-requires c κs = search needs
 
 put-masks-requires : tie.Need-put-masks-requires
-put-masks-requires c κs = search needs
+put-masks-requires c κs =
+    let b = c .before .before .before .before .before .before .before .before .before .before .before in
+    (subst PlanKept (sym (c .before .before .before .before .before .before .before .before .before .plan-body .ensures)) (plan-kept (now (b .args .sheet)) (b .pre)), c .before .before .put-firsts .ensures .size)
 
 returns : tie.Need-returns
 returns c =

@@ -29,7 +29,7 @@ loop-holds c =
     (omega arith, filled-none (Right (now (a .plan))) 16 (now (a .index)) (c .before .before .pre .1), none-before (now (a .plan)) 0)
 
 first-from-requires : tie.Need-first-from-requires Inv-loop μ-loop
-first-from-requires c κs = c .before .loop .inv .2
+first-from-requires c κs = (c .before .before .before .before .pre .0, c .before .loop .inv .2)
 
 cast-index : tie.Need-cast-index Inv-loop μ-loop
 cast-index c = search needs

@@ -25,13 +25,13 @@ action-count-requires : tie.Need-action-count-requires Inv-loop μ-loop
 action-count-requires c κs = search needs
 
 used-actions-requires : tie.Need-used-actions-requires Inv-loop μ-loop
-used-actions-requires c κs = search needs
+used-actions-requires c κs = c .before .before .before .pre .0
 
 loop-holds : tie.Need-loop-holds Inv-loop μ-loop
 loop-holds c =
     let b = c .before .before .before .before in
     let a = b .args in
-    (omega arith, filled-none (Right (now (a .plan)) (now (a .actions)) (c .used-actions .result)) 160 (now (a .index)) (b .pre))
+    (omega arith, filled-none (Right (now (a .plan)) (now (a .actions)) (c .used-actions .result)) 160 (now (a .index)) (b .pre .1))
 
 array-read-if1 : tie.Need-array-read-if1 Inv-loop μ-loop
 array-read-if1 c = omega arith

@@ -22,7 +22,7 @@ loop-holds : tie.Need-loop-holds Inv-loop μ-loop
 loop-holds c = (omega arith, refl, λ i h. absurd (omega arith))
 
 label-at-requires : tie.Need-label-at-requires Inv-loop μ-loop
-label-at-requires c κs = search needs
+label-at-requires c κs = omega (arith, c .before .before .before .before .pre .exact)
 
 cast-at : tie.Need-cast-at Inv-loop μ-loop
 cast-at c = omega arith
