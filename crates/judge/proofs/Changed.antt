@@ -4,18 +4,18 @@ use mathlib.Core.List.{List}
 use mathlib.Core.Path.{_≡_, refl}
 use Prim.Native.Nat.{ℕ, _<_}
 use Rattle.judge.specs.Rows.{Row, joined}
-use Rattle.judge.specs.Tables.{byteAt, empty, filled, known, byte, constant, changed}
+use Rattle.judge.specs.Tables.{byteAt, empty, filled, known, byteOf, constant, changed}
 use Rattle.judge.proofs.Systems.{Each, Falling}
 
-pub known-byte : (b : Bool) → known (byte b) ≡ b
+pub known-byte : (b : Bool) → known (byteOf b) ≡ b
 known-byte true = refl
 known-byte false = refl
 
-pub empty-byte : (b : Bool) → empty (byte b) ≡ false
+pub empty-byte : (b : Bool) → empty (byteOf b) ≡ false
 empty-byte true = refl
 empty-byte false = refl
 
-pub filled-byte : (b : Bool) → filled (byte b) ≡ true
+pub filled-byte : (b : Bool) → filled (byteOf b) ≡ true
 filled-byte true = refl
 filled-byte false = refl
 

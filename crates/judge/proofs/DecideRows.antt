@@ -19,8 +19,7 @@ use Rattle.sheet.specs.declared.Check.the-variants.{Passed}
 use Rattle.calculus.specs.Decode.{planOf}
 use Rattle.calculus.proofs.Variables.{Above}
 use Rattle.judge.specs.Rows.{Connective, disjunction, conjunction, Row, deciding, decides}
-use Rattle.judge.specs.Tables.{Result, out, constant}
-use Rattle.judge.specs.Tables.{byte as valueByte}
+use Rattle.judge.specs.Tables.{Result, out, constant, byteOf}
 use Rattle.judge.specs.Solver.{walk}
 use Rattle.judge.specs.Cells.{Cell, cell, only, following, opened, outer, constantOf, rows, indexOf, marks}
 use Rattle.judge.specs.Clearing.{sizeOf}

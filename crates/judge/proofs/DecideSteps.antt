@@ -21,8 +21,7 @@ use Rattle.sheet.proofs.Accepted.{accepted-iff}
 use Rattle.sheet.proofs.Checks.{both}
 use Rattle.calculus.specs.Decode.{planOf}
 use Rattle.judge.specs.Rows.{Connective, disjunction, conjunction, Row, deciding, decides}
-use Rattle.judge.specs.Tables.{byteAt, empty, known, Result, out, visits, constant}
-use Rattle.judge.specs.Tables.{byte as valueByte}
+use Rattle.judge.specs.Tables.{byteAt, empty, known, Result, out, visits, constant, byteOf}
 use Rattle.judge.specs.Solver.{fillCell, walk}
 use Rattle.judge.specs.Loops.{settled}
 use Rattle.judge.specs.Cells.{Cell, cell, only, following, opened, outer, constantOf, rows, enough, marks, cellCount, indexOf, cellAt, successors, MarkRight, CellOf}
@@ -122,9 +121,9 @@ module _ (s : List ℕ) (accepted : sheetCheck s ≡ Passed) where
       by-row = query-row sol c v t room (eq-eqb (byteAt t (indexOf (ruleBody s) c)) 0 e)
 
       -- the row, and what the walk along it gives
-      pub filled-cell : (row : Row Cell) → rows (planBody s) (actionsBody s) (ruleBody s) c ≡ row → (w r : ℕ) (u : List ℕ) → out (verdictIn w) (visitsIn w) u ≡ walk (λ d x. resultAt s d x) (row .connective) (row .entries) t → CellFilled w r → Decided s c t r (set u (indexOf (ruleBody s) c) (valueByte (verdictIn w)))
+      pub filled-cell : (row : Row Cell) → rows (planBody s) (actionsBody s) (ruleBody s) c ≡ row → (w r : ℕ) (u : List ℕ) → out (verdictIn w) (visitsIn w) u ≡ walk (λ d x. resultAt s d x) (row .connective) (row .entries) t → CellFilled w r → Decided s c t r (set u (indexOf (ruleBody s) c) (byteOf (verdictIn w)))
       filled-cell row f w r u g k =
-          decided c t r (set u (indexOf (ruleBody s) c) (valueByte (verdictIn w)))
-          ((λ i. out (k .verdict-is i) (k .visits-are i) (set u (indexOf (ruleBody s) c) (valueByte (verdictIn w)))) ∙
+          decided c t r (set u (indexOf (ruleBody s) c) (byteOf (verdictIn w)))
+          ((λ i. out (k .verdict-is i) (k .visits-are i) (set u (indexOf (ruleBody s) c) (byteOf (verdictIn w)))) ∙
           (ap (fillCell (indexOf (ruleBody s) c)) g ∙
           sym (by-row ∙ ap (λ (x : Row Cell). fillCell (indexOf (ruleBody s) c) (walk (λ d y. resultAt s d y) (x .connective) (x .entries) t)) f)))

@@ -6,7 +6,7 @@ use mathlib.Core.Path.{_≡_, refl, sym, ap, ap₂, subst, _∙_}
 use Prim.Native.Nat.{ℕ, zero, suc, _<_}
 use native.Mathlib.Omega.{arith}
 use Rattle.judge.specs.Rows.{Connective, Row, decides, joined, looked}
-use Rattle.judge.specs.Tables.{byteAt, empty, known, byte, constant, changed, among}
+use Rattle.judge.specs.Tables.{byteAt, empty, known, byteOf, constant, changed, among}
 use Rattle.judge.proofs.Systems.{Each, Solvable}
 use Rattle.judge.proofs.Fuel.{each-map, value-row, value-unique}
 use Rattle.judge.proofs.Changed.{known-byte, empty-byte, joined-constant, changed-same, changed-filled}
@@ -37,7 +37,7 @@ looked-constant false v n = refl
 module _ {C : Type 0} {index : C → ℕ} {rows : C → Row C} {size : ℕ} {cellAt : ℕ → C} {Valid : C → Type 0} {rank : C → ℕ} {F : ℕ} (s : Solvable index rows size cellAt Valid rank F) where
   -- a cell is as in t or, where t had it empty, holds its solution by t's rows
   abbrev pub Kept : List ℕ → List ℕ → C → Type 0
-  Kept t u c = (byteAt u (index c) ≡ byteAt t (index c)) ⊎ ((empty (byteAt t (index c)) ≡ true) × (byteAt u (index c) ≡ byte (solution s t c)))
+  Kept t u c = (byteAt u (index c) ≡ byteAt t (index c)) ⊎ ((empty (byteAt t (index c)) ≡ true) × (byteAt u (index c) ≡ byteOf (solution s t c)))
 
   -- u is a right extension of t: every cell is kept, and with a newly filled cell all cells needed for it are filled
   pub record Extends (t u : List ℕ) : Type 0 where
@@ -46,7 +46,7 @@ module _ {C : Type 0} {index : C → ℕ} {rows : C → Row C} {size : ℕ} {cel
 
   module _ (t u : List ℕ) (x : Extends t u) where
     -- where u fills a cell anew its row is the constant of its solution
-    newly : (c : C) → byteAt u (index c) ≡ byte (solution s t c) → changed index rows u c ≡ constant (solution s t c)
+    newly : (c : C) → byteAt u (index c) ≡ byteOf (solution s t c) → changed index rows u c ≡ constant (solution s t c)
     newly c e = changed-filled index rows u c (ap empty e ∙ empty-byte (solution s t c)) ∙ ap constant (ap known e ∙ known-byte (solution s t c))
 
     pub extension-value : (c : C) → Valid c → solution s u c ≡ solution s t c

@@ -17,8 +17,7 @@ use Rattle.sheet.specs.Rules.{SheetKept}
 use Rattle.sheet.specs.Reading.{sheetCheck}
 use Rattle.sheet.specs.declared.Check.the-variants.{Passed}
 use Rattle.sheet.proofs.Accepted.{accepted-iff, plan-length, rule-length}
-use Rattle.judge.specs.Tables.{known}
-use Rattle.judge.specs.Tables.{byte as valueByte}
+use Rattle.judge.specs.Tables.{known, byteOf}
 use Rattle.judge.specs.Deciding.{verdictIn, visitsIn, Known, Joined, CellFilled}
 
 part-byte : (s : List ℕ) (offset size j : ℕ) → j < size → byte (take size (drop offset s)) j ≡ byte s (offset + j)
@@ -80,8 +79,8 @@ joined first second = record { verdict-is = same-parity (first / 2 * 2 + second)
 pub cell-filled : (w : ℕ) → CellFilled w (w + 2)
 cell-filled w = record { verdict-is = same-parity (w + 2) w (omega arith); visits-are = omega arith; small = refl }
 
-pub true-byte : (w : ℕ) → verdictIn w ≡ true → 2 ≡ valueByte (verdictIn w)
+pub true-byte : (w : ℕ) → verdictIn w ≡ true → 2 ≡ byteOf (verdictIn w)
 true-byte w e = rw e
 
-pub false-byte : (w : ℕ) → verdictIn w ≡ false → 1 ≡ valueByte (verdictIn w)
+pub false-byte : (w : ℕ) → verdictIn w ≡ false → 1 ≡ byteOf (verdictIn w)
 false-byte w e = rw e

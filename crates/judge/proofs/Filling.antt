@@ -10,7 +10,7 @@ use lib.ListN.{length}
 use lib.Seq.{ext-getD}
 use borrow.Author.Tests.{ltb-true, ltb-false}
 use Rattle.judge.specs.Rows.{Row}
-use Rattle.judge.specs.Tables.{byteAt, empty, byte, among, fills, filling, count}
+use Rattle.judge.specs.Tables.{byteAt, empty, byteOf, among, fills, filling, count}
 use Rattle.judge.proofs.Systems.{Each, Solvable}
 use Rattle.judge.proofs.Changed.{empty-byte}
 use Rattle.judge.proofs.Among.{among-append, among-find, among-other}
@@ -52,7 +52,7 @@ module _ {C : Type 0} {index : C → ℕ} {rows : C → Row C} {size : ℕ} {cel
   unfolding filling
   fill-above t l i h = rewritten-above size _ t i h
 
-  pub fill-new : (t : List ℕ) (l : List C) → size ≤ length t → (i : ℕ) → i < size → fills index t l i ≡ true → byteAt (fill t l) i ≡ byte (solution s t (cellAt i))
+  pub fill-new : (t : List ℕ) (l : List C) → size ≤ length t → (i : ℕ) → i < size → fills index t l i ≡ true → byteAt (fill t l) i ≡ byteOf (solution s t (cellAt i))
   unfolding filling
   fill-new t l fits i h e = rewritten-below size _ t i h (omega arith) ∙ rw e
 
@@ -83,7 +83,7 @@ module _ {C : Type 0} {index : C → ℕ} {rows : C → Row C} {size : ℕ} {cel
   fill-extends t l fits w = record { kept = λ c vc. kept c vc (fills index t l (index c)) refl; closed = closed }
     where
       kept : (c : C) → Valid c → (b : Bool) → fills index t l (index c) ≡ b → Kept s t (fill t l) c
-      kept c vc true e = inr ((fills-true index t l (index c) e) .0, fill-new t l fits (index c) (s .layout .inside c vc) e ∙ ap (λ (d : C). byte (solution s t d)) (s .layout .back c vc))
+      kept c vc true e = inr ((fills-true index t l (index c) e) .0, fill-new t l fits (index c) (s .layout .inside c vc) e ∙ ap (λ (d : C). byteOf (solution s t d)) (s .layout .back c vc))
       kept c vc false e = inl (fill-old t l fits (index c) e)
 
       held : (c : C) → Valid c → empty (byteAt t (index c)) ≡ true → empty (byteAt (fill t l) (index c)) ≡ false → (b : Bool) → fills index t l (index c) ≡ b → among index l (index c) ≡ true
@@ -140,7 +140,7 @@ module _ {C : Type 0} {index : C → ℕ} {rows : C → Row C} {size : ℕ} {cel
         below i h false true true p q r e =
             let found : (d : C) × Valid d × (index d ≡ i) = among-find index m vm i ((fills-true index (fill t l) m i q) .1) in
             let cell : found .0 ≡ cellAt i = sym (s .layout .back (found .0) (found .1)) ∙ ap cellAt (found .2) in
-            fill-new (fill t l) m still i h q ∙ ap byte (subst (λ (d : C). solution s (fill t l) d ≡ solution s t d) cell (extension-value s t (fill t l) (fill-extends t l fits w) (found .0) (found .1)))
+            fill-new (fill t l) m still i h q ∙ ap byteOf (subst (λ (d : C). solution s (fill t l) d ≡ solution s t d) cell (extension-value s t (fill t l) (fill-extends t l fits w) (found .0) (found .1)))
             ∙ sym (fill-new t (l ++ n) fits i h r)
         below i h false false false p q r e = fill-old (fill t l) m still i q ∙ fill-old t l fits i p ∙ sym (fill-old t (l ++ n) fits i r)
 

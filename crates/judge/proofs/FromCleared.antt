@@ -7,7 +7,7 @@ use native.Mathlib.Omega.{arith}
 use lib.ListN.{length}
 use borrow.Author.Tests.{eq-eqb}
 use Rattle.judge.specs.Rows.{Row, value, need}
-use Rattle.judge.specs.Tables.{byteAt, empty, filled, byte, changed, among, fills, count, verdict, neededFor}
+use Rattle.judge.specs.Tables.{byteAt, empty, filled, byteOf, changed, among, fills, count, verdict, neededFor}
 use Rattle.judge.proofs.Systems.{Each, queries, total, final, Solvable}
 use Rattle.judge.proofs.Fuel.{each-map, value-agree, need-agree}
 use Rattle.judge.proofs.Changed.{changed-empty, filled-byte}
@@ -46,7 +46,7 @@ module _ {C : Type 0} {index : C → ℕ} {rows : C → Row C} {size : ℕ} {cel
   pub record Cleared (cs : List C) (u : List ℕ) : Type 0 where
     pub verdicts : map verdict (queries index size cellAt rows F t cs) ≡ map (value rows F) cs
     pub exactly : (i : ℕ) → i < size → filled (byteAt u i) ≡ neededFor index rows F cs i
-    pub solved : (i : ℕ) → i < size → neededFor index rows F cs i ≡ true → byteAt u i ≡ byte (value rows F (cellAt i))
+    pub solved : (i : ℕ) → i < size → neededFor index rows F cs i ≡ true → byteAt u i ≡ byteOf (value rows F (cellAt i))
     pub unsolved : (i : ℕ) → i < size → neededFor index rows F cs i ≡ false → byteAt u i ≡ 0
     pub sum : total (queries index size cellAt rows F t cs) ≡ count size (λ i. filled (byteAt u i))
     pub above : (i : ℕ) → size ≤ i → byteAt u i ≡ byteAt t i
@@ -71,11 +71,11 @@ module _ {C : Type 0} {index : C → ℕ} {rows : C → Row C} {size : ℕ} {cel
       passes : (i : ℕ) → i < size → fills index t l i ≡ neededFor index rows F cs i
       passes i h = fills-empty index t l i (free i h) ∙ cleared-needs cs e i
 
-      solved : (i : ℕ) → i < size → neededFor index rows F cs i ≡ true → byteAt (fill s t l) i ≡ byte (value rows F (cellAt i))
+      solved : (i : ℕ) → i < size → neededFor index rows F cs i ≡ true → byteAt (fill s t l) i ≡ byteOf (value rows F (cellAt i))
       solved i h n =
           let found : (d : C) × Valid d × (index d ≡ i) = among-find index l (needs-whole s t cs e .valid) i (cleared-needs cs e i ∙ n) in
           let cell : found .0 ≡ cellAt i = sym (s .layout .back (found .0) (found .1)) ∙ ap cellAt (found .2) in
-          fill-new s t l fits i h (passes i h ∙ n) ∙ ap byte (subst (λ (d : C). solution s t d ≡ value rows F d) cell (cleared-value (found .0) (found .1)))
+          fill-new s t l fits i h (passes i h ∙ n) ∙ ap byteOf (subst (λ (d : C). solution s t d ≡ value rows F d) cell (cleared-value (found .0) (found .1)))
 
       unsolved : (i : ℕ) → i < size → neededFor index rows F cs i ≡ false → byteAt (fill s t l) i ≡ 0
       unsolved i h n = fill-old s t l fits i (passes i h ∙ n) ∙ clear i h

@@ -6,7 +6,7 @@ use Prim.Native.Nat.{ℕ, suc, _+_, _<_, _≤_}
 use native.Mathlib.Omega.{arith}
 use lib.ListN.{length, set}
 use Rattle.judge.specs.Rows.{Connective, Row, deciding, decides}
-use Rattle.judge.specs.Tables.{byteAt, empty, known, byte, Result, out, visits, count, fills, query}
+use Rattle.judge.specs.Tables.{byteAt, empty, known, byteOf, Result, out, visits, count, fills, query}
 use Rattle.judge.specs.Solver.{after, fillCell, walk, step, solve}
 use Rattle.judge.proofs.Systems.{Each, Solvable}
 use Rattle.judge.proofs.Fuel.{each-map}

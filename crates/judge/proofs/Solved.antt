@@ -9,7 +9,7 @@ use lib.ListN.{length, set, length-set}
 use lib.Seq.{ext-getD, getD-set-same, getD-set-other}
 use borrow.Author.Tests.{eqb-true, eqb-false, eq-eqb, ltb-true, ltb-false}
 use Rattle.judge.specs.Rows.{Row, joined, looked}
-use Rattle.judge.specs.Tables.{byteAt, empty, known, byte, changed, among, fills, count, query, Result, out, table}
+use Rattle.judge.specs.Tables.{byteAt, empty, known, byteOf, changed, among, fills, count, query, Result, out, table}
 use Rattle.judge.proofs.Fuel.{each-map, value-row}
 use Rattle.judge.proofs.Changed.{changed-empty, changed-filled, joined-constant}
 use Rattle.judge.proofs.Among.{false-if, among-head, among-none}
@@ -64,13 +64,13 @@ module _ {C : Type 0} {index : C → ℕ} {rows : C → Row C} {size : ℕ} {cel
       own-count : count size (fills index t l) + 1 ≡ count size (fills index t (c ∷ l))
       own-count = omega (arith, count-one size (index c) (s .layout .inside c vc), count-sum size (eqb (index c)) (fills index t l) (fills index t (c ∷ l)) own-sum)
 
-      own-fill : set (fill s t l) (index c) (byte (solution s t c)) ≡ fill s t (c ∷ l)
+      own-fill : set (fill s t l) (index c) (byteOf (solution s t c)) ≡ fill s t (c ∷ l)
       own-fill =
-          ext-getD 0 (set (fill s t l) (index c) (byte (solution s t c))) (fill s t (c ∷ l)) (length-set (fill s t l) (index c) _ ∙ fill-length s t l ∙ sym (fill-length s t (c ∷ l)))
+          ext-getD 0 (set (fill s t l) (index c) (byteOf (solution s t c))) (fill s t (c ∷ l)) (length-set (fill s t l) (index c) _ ∙ fill-length s t l ∙ sym (fill-length s t (c ∷ l)))
           (λ i h. go i (eqb (index c) i) refl)
         where
           Byte : ℕ → Type 0
-          Byte i = byteAt (set (fill s t l) (index c) (byte (solution s t c))) i ≡ byteAt (fill s t (c ∷ l)) i
+          Byte i = byteAt (set (fill s t l) (index c) (byteOf (solution s t c))) i ≡ byteAt (fill s t (c ∷ l)) i
 
           inside : index c < size
           inside = s .layout .inside c vc
@@ -78,7 +78,7 @@ module _ {C : Type 0} {index : C → ℕ} {rows : C → Row C} {size : ℕ} {cel
           go : (i : ℕ) (b : Bool) → eqb (index c) i ≡ b → Byte i
           go i true q =
               subst Byte (eqb-true (index c) i q) (getD-set-same (fill s t l) (index c) _ 0 (rw (fill-length s t l) (omega (arith, inside)))
-              ∙ sym (fill-new s t (c ∷ l) fits (index c) inside mine ∙ ap (λ (d : C). byte (solution s t d)) (s .layout .back c vc)))
+              ∙ sym (fill-new s t (c ∷ l) fits (index c) inside mine ∙ ap (λ (d : C). byteOf (solution s t d)) (s .layout .back c vc)))
           go i false q =
               getD-set-other (fill s t l) (index c) i _ 0 (λ e. eqb-false (index c) i q (sym e)) ∙ fill-same s t l (c ∷ l) fits i (sym (fills-other index t c l i q))
 
@@ -91,7 +91,7 @@ module _ {C : Type 0} {index : C → ℕ} {rows : C → Row C} {size : ℕ} {cel
         let apart : among index l (index c) ≡ false =
         ap (λ (r : Row C). among index (along s t (r .connective) (r .entries)) (index c)) (sym own) ∙ entries-apart (changed-solvable s t) c vc in
         out-path (sym val) (own-count free l apart ∙ ap (λ (m : List C). count size (fills index t m)) (sym lst))
-        (ap (λ (v : Bool). set (fill s t l) (index c) (byte v)) (sym val) ∙ own-fill free l apart ∙ ap (fill s t) (sym lst))
+        (ap (λ (v : Bool). set (fill s t l) (index c) (byteOf v)) (sym val) ∙ own-fill free l apart ∙ ap (fill s t) (sym lst))
 
   -- at any fuel above the cell's rank, on every table long enough
   pub solve-answer : (f : ℕ) (c : C) → Valid c → rank c < f → (t : List ℕ) → size ≤ length t → solve index rows f c t ≡ answer s t c
@@ -115,7 +115,7 @@ module _ {C : Type 0} {index : C → ℕ} {rows : C → Row C} {size : ℕ} {cel
   fill-right t l fits w =
       record { extends = fill-extends s t l fits w; long = fill-length s t l; small = λ i h. small i h (fills index t l i) (ltb i size) refl refl; above = λ i h. fill-above s t l i h }
     where
-      byte-small : (b : Bool) → byte b ≤ 2
+      byte-small : (b : Bool) → byteOf b ≤ 2
       byte-small true = omega arith
       byte-small false = omega arith
 

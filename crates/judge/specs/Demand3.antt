@@ -17,7 +17,7 @@ use Rattle.calculus.specs.Verdict.{Verdict}
 use Rattle.calculus.specs.Exchange.{exchanged}
 use Rattle.calculus.specs.Guard.{guardedRule}
 use Rattle.judge.specs.Rows.{value}
-use Rattle.judge.specs.Tables.{byteAt, filled, byte, count, neededFor}
+use Rattle.judge.specs.Tables.{byteAt, filled, byteOf, count, neededFor}
 use Rattle.judge.specs.Cells.{Cell, cell, rows, enough, indexOf, cellAt}
 use Rattle.judge.specs.Clearing.{sizeOf, tableCleared, clearReportOf}
 use Rattle.judge.specs.Querying.{NoLoop, QueryReport, reportedQuery, queriedOf, tableQueried}
@@ -80,7 +80,7 @@ pub record Demand3 (s t states : List ℕ) : Type 0 where
   -- filled are exactly the cells "needed for (0, 0, s), s the state of at least one of" the queries not refused, by the rows as written
   pub cells : (i : ℕ) → i < sizeOf s → filled (byteAt (tableAfter s (tableCleared s t) states) i) ≡ neededFor (indexOf (ruleBody s)) (rows (planBody s) (actionsBody s) (ruleBody s)) enough (queriedCells (stateCount (planBody s)) states) i
   -- each with its solution
-  pub solved : (i : ℕ) → i < sizeOf s → filled (byteAt (tableAfter s (tableCleared s t) states) i) ≡ true → byteAt (tableAfter s (tableCleared s t) states) i ≡ byte (value (rows (planBody s) (actionsBody s) (ruleBody s)) enough (cellAt (ruleBody s) i))
+  pub solved : (i : ℕ) → i < sizeOf s → filled (byteAt (tableAfter s (tableCleared s t) states) i) ≡ true → byteAt (tableAfter s (tableCleared s t) states) i ≡ byteOf (value (rows (planBody s) (actionsBody s) (ruleBody s)) enough (cellAt (ruleBody s) i))
   -- every other cell is empty
   pub empties : (i : ℕ) → i < sizeOf s → filled (byteAt (tableAfter s (tableCleared s t) states) i) ≡ false → byteAt (tableAfter s (tableCleared s t) states) i ≡ 0
   -- "Bytes after these are never changed."

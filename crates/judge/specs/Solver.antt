@@ -4,7 +4,7 @@ use mathlib.Core.List.{List, [], _∷_}
 use Prim.Native.Nat.{ℕ, zero, suc, _+_}
 use lib.ListN.{set}
 use Rattle.judge.specs.Rows.{Connective, Row, deciding, decides}
-use Rattle.judge.specs.Tables.{byteAt, empty, known, byte, Result, out}
+use Rattle.judge.specs.Tables.{byteAt, empty, known, byteOf, Result, out}
 
 -- n visits before those of a result
 abbrev pub after : ℕ → Result → Result
@@ -12,7 +12,7 @@ after n (out v k t) = out v (n + k) t
 
 -- the cell at i is given its value, and counts as one visit more
 abbrev pub fillCell : ℕ → Result → Result
-fillCell i (out v k t) = out v (k + 1) (set t i (byte v))
+fillCell i (out v k t) = out v (k + 1) (set t i (byteOf v))
 
 module _ {C : Type 0} (rec : C → List ℕ → Result) (k : Connective) where
   -- the entries of a row in order, each with the table so far, up to the first that decides

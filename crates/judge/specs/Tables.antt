@@ -20,9 +20,9 @@ abbrev pub filled : ℕ → Bool
 filled b = eqb b 1 || eqb b 2
 
 -- "1 false, 2 true": the byte of a value
-abbrev pub byte : Bool → ℕ
-byte false = 1
-byte true = 2
+abbrev pub byteOf : Bool → ℕ
+byteOf false = 1
+byteOf true = 2
 
 -- "1 false, 2 true": the value that a filled byte holds
 abbrev pub known : ℕ → Bool
@@ -76,7 +76,7 @@ module _ {C : Type 0} (index : C → ℕ) where
 module _ {C : Type 0} (index : C → ℕ) (size : ℕ) (cellAt : ℕ → C) where
   -- "fills exactly the needed cells that were empty, each with its own solution, changes no other cell"
   unfoldable pub filling : (C → Bool) → List C → List ℕ → List ℕ
-  filling v l t = rewritten size (λ i b. elim (fills index t l i) [ true ↦ byte (v (cellAt i)) | false ↦ b ]) t
+  filling v l t = rewritten size (λ i b. elim (fills index t l i) [ true ↦ byteOf (v (cellAt i)) | false ↦ b ]) t
 
   -- "It gives the solution at (0, 0, s), fills exactly the needed cells that were empty, each with its own solution, changes no other cell, and reports how many it filled as its visits"; "solution and need are those of the rows so changed"
   unfoldable pub query : (C → Row C) → ℕ → List ℕ → C → Result

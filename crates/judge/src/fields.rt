@@ -10,7 +10,7 @@ ghost use Rattle.sheet.specs.Contents.{planBody, ruleBody};
 ghost use Rattle.sheet.specs.Plan.{label, target};
 ghost use Rattle.sheet.specs.Rule.{nodeKind, nodeX, nodeY};
 ghost use Rattle.sheet.specs.Bytes.{byte};
-ghost use Rattle.judge.specs.Tables.{byte as valueByte};
+ghost use Rattle.judge.specs.Tables.{byteOf};
 ghost use Rattle.judge.specs.Deciding.{NodeAt, TransitionAt, Known, Joined, CellFilled, verdictIn};
 
 pub(crate) fn wide(x: u8) -> usize
@@ -150,7 +150,7 @@ pub(crate) fn both(first: u32, second: u32) -> u32
 pub(crate) fn fill_cell(table: &mut [u8], at: usize, w: u32) -> u32
     requires { ⌜ (at < length (now table)) × (w < 1000000000) ⌝ }
     ensures { λ r. ⌜ CellFilled w r ⌝ }
-    ensures { λ _. ⌜ now (table .exit) ≡ set (now (table .entry)) at (valueByte (verdictIn w)) ⌝ }
+    ensures { λ _. ⌜ now (table .exit) ≡ set (now (table .entry)) at (byteOf (verdictIn w)) ⌝ }
 {
     if is_true(w) {
         table[at] = 2;
