@@ -9,9 +9,11 @@ use Rattle.calculus.specs.Formulas.{ActionFormula, Formula, never, alway
 use Rattle.calculus.specs.Plans.{Transition, Plan}
 use Rattle.calculus.specs.Meaning.{meets, bind}
 
+-- no state
 abbrev pub emptySet : ℕ → Bool
 emptySet t = false
 
+-- every state
 abbrev pub fullSet : ℕ → Bool
 fullSet t = true
 

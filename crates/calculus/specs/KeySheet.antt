@@ -10,5 +10,6 @@ keySheet kind =
     3 ∷ 2 ∷ 0 ∷ 0 ∷ 2 ∷ 1 ∷ 0 ∷ 2 ∷ 2 ∷ 0 ∷
     12 ∷ kind ∷ 0 ∷ 1 ∷ 2 ∷ 2 ∷ 4 ∷ 4 ∷ 2 ∷ 3 ∷ 1 ∷ 0 ∷ 0 ∷ 2 ∷ 5 ∷ 7 ∷ 4 ∷ 0 ∷ 6 ∷ 6 ∷ 0 ∷ 0 ∷ 7 ∷ 1 ∷ 8 ∷ 2 ∷ 9 ∷ 10 ∷ 6 ∷ 0 ∷ 0 ∷ 4 ∷ 1 ∷ 11 ∷ 6 ∷ 1 ∷ 0 ∷ []
 
+-- K: its first rule node is a least fixed point
 abbrev pub K : List ℕ
 K = keySheet 7

@@ -4,9 +4,9 @@ use mathlib.Core.Path.{_≡_, refl, sym, ap, subst, _∙_}
 use mathlib.Core.List.{List, [], _∷_}
 use Rattle.calculus.specs.Exchange.{exchanged}
 use Rattle.judge.specs.Clearing.{tableCleared, ClearReport, reportedClear}
-use Rattle.judge.specs.Querying.{NoLoop, queriedOf, tableQueried, QueryReport, reportedQuery}
+use Rattle.judge.specs.Querying.{queriedOf, QueryReport, reportedQuery}
 use Rattle.judge.specs.Demand3.{reports, tableAfter, SameAnswers, JustCleared}
-use Rattle.judge.specs.Delivered.{Clears, Queries, Calls, none, call, Delivered}
+use Rattle.judge.specs.Delivered.{Clears, Calls, none, call, DeliveredThree}
 use Rattle.judge.specs.declared.Cleared.{Cleared}
 use Rattle.judge.proofs.Demand3.{demand3}
 
@@ -30,8 +30,7 @@ cleared-report s t states r u answers v c q = calls-report s q ∙ ap (λ (x : L
 gave-none : (s t : List ℕ) (r : Cleared) (u : List ℕ) → Clears s t r u → reportedClear r .number ≡ 0 → JustCleared s t
 gave-none s t r u c just = sym (ap (λ (x : ClearReport). x .number) (c .1 .0)) ∙ just
 
--- every sheet without loop, every buffer on which `clear` gave number 0, every list of states: clearing, then the queries, each as its contract says
-pub delivered : (s t states : List ℕ) (r : Cleared) (u : List ℕ) (answers : List QueryReport) (v : List ℕ) → Clears s t r u → reportedClear r .number ≡ 0 → NoLoop s → Calls s u states answers v → Delivered s t states answers v
+pub delivered : DeliveredThree
 delivered s t states r u answers v c just quiet q =
     let d = demand3 .lists s t states (gave-none s t r u c just) quiet in
     record {

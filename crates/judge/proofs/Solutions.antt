@@ -1,4 +1,4 @@
--- The rows of an accepted sheet without loop, as a table changes them, have one solution: no chain of them returns.
+-- The rows of an accepted sheet without loop, as written and as a table changes them, have one solution: no chain of them returns.
 use Prim.Native.Nat.{ℕ, _<_}
 use mathlib.Core.Path.{_≡_, sym, subst}
 use mathlib.Core.Logic.{_⊎_, inl, inr}
@@ -11,9 +11,9 @@ use Rattle.judge.specs.Rows.{Row}
 use Rattle.judge.specs.Loops.{Way, last, first}
 use Rattle.judge.specs.Cells.{Cell, CellOf, enough, indexOf}
 use Rattle.judge.specs.Querying.{NoLoop}
-use Rattle.judge.specs.Solutions.{rowsOf, OneSolution, RowsHaveOneSolution}
+use Rattle.judge.specs.Solutions.{writtenRows, changedRows, OneSolution, RowsHaveOneSolution}
 use Rattle.judge.proofs.Systems.{Each, Falling}
-use Rattle.judge.proofs.Fuel.{value-row, value-unique}
+use Rattle.judge.proofs.Fuel.{value-row, value-unique, need-row}
 use Rattle.judge.proofs.Changed.{changed-falling}
 use Rattle.judge.proofs.ValidCells.{Valid}
 use Rattle.judge.proofs.Ranks.{rank, rank-enough, falling}
@@ -40,20 +40,27 @@ module _ {C : Type 0} (rows : C → Row C) {Counts : C → Type 0} {rank : C →
       let g = way-falls (h .0) w in
       (g .0, omega (arith, h .1, g .1))
 
-module _ (s t : List ℕ) (accepted : sheetCheck s ≡ Passed) (none : NoLoop s) where
-  valid : (c : Cell) → CellOf (planBody s) (ruleBody s) c → Valid (planBody s) (actionsBody s) (ruleBody s) c
+module _ (s : List ℕ) (accepted : sheetCheck s ≡ Passed) (none : NoLoop s) where
+  abbrev Counted : Cell → Type 0
+  Counted = Valid (planBody s) (actionsBody s) (ruleBody s)
+
+  valid : (c : Cell) → CellOf (planBody s) (ruleBody s) c → Counted c
   valid c d = counted s accepted c d (acyclic-settled (planBody s) (bodies s accepted .plan-kept) none (c .state) (d .state-below))
 
-  falls : Falling (rowsOf s t) (Valid (planBody s) (actionsBody s) (ruleBody s)) (rank (planBody s) (ruleBody s))
-  falls = changed-falling (indexOf (ruleBody s)) _ (falling (bodies s accepted)) t
+  enough-for : (c : Cell) → CellOf (planBody s) (ruleBody s) c → rank (planBody s) (ruleBody s) c < enough
+  enough-for c d = rank-enough (bodies s accepted) c (valid c d)
 
-  one : OneSolution s t
-  one = record {
-    no-return = λ c d w. absurd (omega (arith, way-falls (rowsOf s t) falls (valid c d) w .1));
-    is-solution = record { row = λ c d. value-row (rowsOf s t) falls enough c (valid c d) (rank-enough (bodies s accepted) c (valid c d)) };
-    only-solution = λ v solution c d.
-        value-unique (rowsOf s t) falls v (λ e w. solution .row e (uncounted s accepted e w)) enough c (valid c d) (rank-enough (bodies s accepted) c (valid c d));
+  -- rows along which the rank falls
+  one : (R : Cell → Row Cell) → Falling R Counted (rank (planBody s) (ruleBody s)) → OneSolution s R
+  one R falls = record {
+    no-return = λ c d w. absurd (omega (arith, way-falls R falls (valid c d) w .1));
+    is-solution = record { row = λ c d. value-row R falls enough c (valid c d) (enough-for c d) };
+    only-solution = λ v solution c d. value-unique R falls v (λ e w. solution .row e (uncounted s accepted e w)) enough c (valid c d) (enough-for c d);
+    need-is = λ c d. need-row R falls enough c (valid c d) (enough-for c d);
   }
 
-pub one-solution : RowsHaveOneSolution
-one-solution = one
+  pub one-solution : RowsHaveOneSolution s
+  one-solution = record {
+    written = one (writtenRows s) (falling (bodies s accepted));
+    changed = λ t. one (changedRows s t) (changed-falling (indexOf (ruleBody s)) (writtenRows s) (falling (bodies s accepted)) t);
+  }

@@ -90,9 +90,11 @@ enough = 131072
 
 -- ---- "The table lies in the first S × N × (B + 1) bytes"
 
+-- "B + 1"
 abbrev pub marks : List ℕ → ℕ
 marks r = binderCount r + 1
 
+-- "S × N × (B + 1)"
 abbrev pub cellCount : List ℕ → List ℕ → ℕ
 cellCount p r = stateCount p * nodeCount r * marks r
 
@@ -111,5 +113,6 @@ unfoldable pub targets : ℕ → List Transition → List ℕ
 targets s [] = []
 targets s (t ∷ ts) = pick (eqb (t .origin) s) (t .target ∷ targets s ts) (targets s ts)
 
+-- the states that the plan's transitions lead to from s
 abbrev pub successors : List ℕ → ℕ → List ℕ
 successors p s = targets s (planOf p .transitions)

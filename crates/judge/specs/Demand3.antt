@@ -69,7 +69,7 @@ pub record Exchange (s states : List ℕ) (answers : List QueryReport) (choice :
   -- and so are the queries' answers
   pub same-answers : (u : List ℕ) → JustCleared (exchanged choice s) u → SameAnswers answers (reports (exchanged choice s) (tableCleared (exchanged choice s) u) states)
 
--- A sheet s, a lent buffer t just cleared for it, and a list of states.
+-- A sheet s, a lent buffer t just cleared for it, and a list of states. t is the buffer as lent; the cleared table is tableCleared s t.
 pub record Demand3 (s t states : List ℕ) : Type 0 where
   -- "A query is refused when its number isn't 0": refused are exactly the queries of a state that the plan doesn't have
   pub refusals : Reported (λ state q. (q .number ≡ 0) ↔ (state < stateCount (planBody s))) states (reports s (tableCleared s t) states)
@@ -91,6 +91,7 @@ pub record Demand3 (s t states : List ℕ) : Type 0 where
   -- and at most states × nodes × (binders + 1)
   pub at-most : visitsOf (reports s (tableCleared s t) states) ≤ stateCount (planBody s) * nodeCount (ruleBody s) * (binderCount (ruleBody s) + 1)
 
+-- Demand 3, whole
 pub record DemandThree : Type 0 where
   -- "as it does for an accepted sheet on every buffer long enough"
   pub clears : (s t : List ℕ) → sheetCheck s ≡ Passed → sizeOf s ≤ length t → JustCleared s t

@@ -1,4 +1,4 @@
--- Loops of a plan, as document 01 has them under "Lists of queries". The successors of state s are `next s`; states are numbers below a bound.
+-- Ways and loops, as document 01 has them under "Lists of queries". What follows s in one step is `next s`.
 use mathlib.Core.Bool.{Bool, true, false, _&&_}
 use mathlib.Core.List.{List, [], _∷_, List·Memᴰ}
 use Prim.Native.Nat.{ℕ, zero, suc}

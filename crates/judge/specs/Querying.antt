@@ -25,6 +25,7 @@ use Rattle.judge.specs.declared.Queried.the-variants.{Judged, Refused}
 abbrev pub NoLoop : List ℕ → Type 0
 NoLoop s = (state : ℕ) → state < stateCount (planBody s) → Loop (successors (planBody s)) state → ⊥
 
+-- "the plan has a loop"
 abbrev pub HasLoop : List ℕ → Type 0
 HasLoop s = (state : ℕ) × (state < stateCount (planBody s)) × Loop (successors (planBody s)) state
 
@@ -55,6 +56,7 @@ abbrev pub answerQueried : Result → Check → Queried
 answerQueried r Passed = Judged (verdict r) (visits r)
 answerQueried r (Failed x) = Refused x
 
+-- the answer for every sheet, state and table
 unfoldable pub queriedOf : List ℕ → ℕ → List ℕ → Queried
 queriedOf s state t = answerQueried (resultOf s state t) (queryCheck s state t)
 
@@ -63,6 +65,7 @@ abbrev pub leftBy : Result → List ℕ → Check → List ℕ
 leftBy r t Passed = table r
 leftBy r t (Failed x) = t
 
+-- the table that a query leaves, for every sheet, state and table
 unfoldable pub tableQueried : List ℕ → ℕ → List ℕ → List ℕ
 tableQueried s state t = leftBy (resultOf s state t) t (queryCheck s state t)
 
@@ -86,6 +89,6 @@ reportQuery r (Failed x) = record { number = numberOf x; place = placeOf x; verd
 unfoldable pub queryReportOf : List ℕ → ℕ → List ℕ → QueryReport
 queryReportOf s state t = reportQuery (resultOf s state t) (queryCheck s state t)
 
--- "12: the plan has a loop (query only)", by the definition of a loop: of an accepted sheet, queried at a state that it has
+-- "12: the plan has a loop (query only)": 12 comes exactly for an accepted sheet, queried at a state that it has, whose plan has a loop
 abbrev pub TwelveExactly : Type 0
-TwelveExactly = (s : List ℕ) (state : ℕ) (t : List ℕ) → sheetCheck s ≡ Passed → state < stateCount (planBody s) → (queryReportOf s state t .number ≡ 12) ↔ HasLoop s
+TwelveExactly = (s : List ℕ) (state : ℕ) (t : List ℕ) → (queryReportOf s state t .number ≡ 12) ↔ ((sheetCheck s ≡ Passed) × (state < stateCount (planBody s)) × HasLoop s)

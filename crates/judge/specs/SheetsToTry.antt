@@ -16,6 +16,7 @@ use Rattle.judge.specs.Demand3.{reports}
 
 -- ---- the sheets
 
+-- "K with its first rule node of kind 8"
 abbrev pub K-greatest : List ℕ
 K-greatest = keySheet 8
 
@@ -57,7 +58,7 @@ greatest-loop = withTrue selfLoop (3 ∷ 8 ∷ 0 ∷ 1 ∷ 5 ∷ 0 ∷ 2 ∷ 6 �
 abbrev pub judged : Bool → ℕ → QueryReport
 judged verdict visits = record { number = 0; place = 0; verdict = verdict; visits = visits }
 
--- the queries of the states, one after the other, on each table of this many bytes that clearing cleared, report this
+-- the queries of the states, one after the other, on each cleared table of exactly this many bytes, the fewest that the sheet takes, report this
 abbrev pub Asked : List ℕ → ℕ → List ℕ → List QueryReport → Type 0
 Asked s size states answers = (t : List ℕ) → length t ≡ size → reports s (tableCleared s t) states ≡ answers
 
@@ -65,6 +66,7 @@ Asked s size states answers = (t : List ℕ) → length t ≡ size → reports s
 pub record Word (s : List ℕ) (word : ℕ) : Type 0 where
   pub bits : (state : ℕ) → (bit word state ≡ true) ↔ Verdict s state
 
+-- P1 to P11
 pub record SheetsToTry : Type 0 where
   -- "The key sheet K has 74 bytes"
   pub key-length : length K ≡ 74

@@ -64,6 +64,7 @@ fn number_of(b: bool) -> u32
     0
 }
 
+// Decides a cell: looks it up, or decides its row in order and fills it.
 pub(crate) fn decide(
     sheet: &[u8],
     index: &[u32; 416],

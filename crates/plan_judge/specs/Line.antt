@@ -33,6 +33,7 @@ wordOf false = 102 ∷ 97 ∷ 108 ∷ 115 ∷ 101 ∷ []
 abbrev pub refused : List ℕ
 refused = 114 ∷ 101 ∷ 102 ∷ 117 ∷ 115 ∷ 101 ∷ 100 ∷ []
 
+-- the line of an answer
 unfoldable pub lineOf : Queried → List ℕ
 lineOf (Judged v n) = wordOf v ++ space ++ decimalOf n ++ lineFeed
 lineOf (Refused r) = refused ++ space ++ decimalOf (numberOf r) ++ space ++ decimalOf (placeOf r) ++ lineFeed

@@ -14,6 +14,7 @@ abbrev pub answerAfter : Queried → Cleared → Queried
 answerAfter q cleared.Done = q
 answerAfter q (cleared.Refused r) = queried.Refused r
 
+-- the program's answer
 unfoldable pub programOf : List ℕ → List ℕ → Queried
 programOf s t = answerAfter (queriedOf s 0 (tableCleared s t)) (clearedOf s t)
 
@@ -22,5 +23,6 @@ abbrev pub tableAfter : List ℕ → List ℕ → Cleared → List ℕ
 tableAfter left t cleared.Done = left
 tableAfter left t (cleared.Refused r) = t
 
+-- the table that the program leaves
 unfoldable pub tableLeft : List ℕ → List ℕ → List ℕ
 tableLeft s t = tableAfter (tableQueried s 0 (tableCleared s t)) (tableCleared s t) (clearedOf s t)

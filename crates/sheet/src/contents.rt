@@ -29,6 +29,7 @@ fn start<'a>(sheet: &'a [u8]) -> Reader<'a>
     Reader { sheet, at: 2 }
 }
 
+// The body that the reader's entry tells of.
 fn body<'a>(r: Reader<'a>) -> &'a [u8]
     requires { ⌜ r .at < 1000 ⌝ }
     ensures { λ b. ⌜ now b ≡ bodyAt (now (r .entry .sheet)) (r .entry .at) ⌝ }
