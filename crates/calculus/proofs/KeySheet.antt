@@ -1,8 +1,7 @@
 -- Document 01's key sheet K, decoded and judged by computing: P5's states by Table 1, P6's guard answer, and P4's exchange of the outer binder.
-use Prim.Native.Nat.{ℕ}
 use mathlib.Core.Path.{_≡_, refl}
 use mathlib.Core.Bool.{true, false}
-use mathlib.Core.List.{List, [], _∷_}
+use mathlib.Core.List.{[], _∷_}
 use lib.Dec.{eqb}
 use Rattle.sheet.specs.Contents.{planBody, actionsBody, ruleBody}
 use Rattle.calculus.specs.Formulas.{only, always, disj, some, var, least, greatest}

@@ -1,10 +1,8 @@
 -- What the code of clearing shows.
 use Prim.Native.Nat.{ℕ, _*_, _<_, _≤_}
-use mathlib.Core.Path.{_≡_, refl, sym, ap, _∙_}
+use mathlib.Core.Path.{_≡_, refl, ap, _∙_}
 use mathlib.Core.List.{List, _++_}
-use native.Mathlib.Omega.{arith}
-use native.Mathlib.Nat.{mul-le-mul, le-of-lt, lt-of-le-of-lt}
-use lib.Dec.{lit<}
+use native.Mathlib.Nat.{mul-le-mul, le-of-lt}
 use lib.ListN.{length, drop, replicate}
 use borrow.Author.Tests.{le-leb, lt-leb}
 use Rattle.sheet.specs.Reading.{sheetCheck}
@@ -12,7 +10,7 @@ use Rattle.sheet.specs.declared.Refusal.{Refusal}
 use Rattle.sheet.specs.declared.Refusal.the-variants.{TableShort}
 use Rattle.sheet.specs.declared.Check.{Check}
 use Rattle.sheet.specs.declared.Check.the-variants.{Passed, Failed}
-use Rattle.judge.specs.Clearing.{sizeOf, clearCheck, answerCleared, clearedOf, emptied, tableCleared, reportedClear, reportClear, clearReportOf}
+use Rattle.judge.specs.Clearing.{sizeOf, clearCheck, answerCleared, clearedOf, tableCleared, reportedClear, reportClear, clearReportOf}
 use Rattle.judge.specs.Delivered.{Clears}
 use Rattle.judge.specs.declared.Cleared.{Cleared}
 use Rattle.judge.specs.declared.Cleared.the-variants.{Done, Refused}

@@ -1,21 +1,18 @@
 -- One cell by the kind of its node: the evaluator's answer from the answers that it was given. `at` is the byte of the cell, and x the table after it is set.
-use Prim.Native.Nat.{ℕ, zero, suc, _+_, _*_, _<_, _≤_}
-use mathlib.Core.Path.{_≡_, refl, sym, ap, subst, _∙_}
-use mathlib.Core.Bool.{Bool, true, false, not, Bool·beq}
+use Prim.Native.Nat.{ℕ, _<_, _≤_}
+use mathlib.Core.Path.{_≡_, sym, ap, subst, _∙_}
+use mathlib.Core.Bool.{Bool, true, false, Bool·beq}
 use mathlib.Core.List.{List, [], _∷_}
-use native.Mathlib.Omega.{arith}
-use lib.ListN.{length, getD, set}
+use lib.ListN.{getD, set}
 use lib.Dec.{eqb}
 use Rattle.sheet.specs.Bytes.{pick}
 use Rattle.sheet.specs.Contents.{planBody, actionsBody, ruleBody}
 use Rattle.sheet.specs.Rule.{nodeKind, nodeX, nodeY, binderNode}
-use Rattle.sheet.specs.Reading.{sheetCheck}
-use Rattle.sheet.specs.declared.Check.the-variants.{Passed}
-use Rattle.judge.specs.Rows.{Connective, disjunction, conjunction, Row, deciding, decides}
-use Rattle.judge.specs.Tables.{Result, out, constant, byteOf}
+use Rattle.judge.specs.Rows.{disjunction, conjunction, Row}
+use Rattle.judge.specs.Tables.{out, constant, byteOf}
 use Rattle.judge.specs.Solver.{walk}
-use Rattle.judge.specs.Cells.{Cell, cell, only, opened, outer, constantOf, rows, indexOf}
-use Rattle.judge.specs.Deciding.{Decidable, resultAt, verdictIn, visitsIn, Known, Joined, CellFilled, Decided, connectiveOf, Followed}
+use Rattle.judge.specs.Cells.{Cell, cell, only, opened, outer, rows, indexOf}
+use Rattle.judge.specs.Deciding.{Decidable, resultAt, verdictIn, visitsIn, Known, Joined, CellFilled, Decided, Followed}
 use Rattle.judge.proofs.QuerySteps.{walk-none, walk-only, walk-both}
 use Rattle.judge.proofs.Solver.{walk-decided}
 use Rattle.judge.proofs.DecideSteps.{known-cell, filled-cell}

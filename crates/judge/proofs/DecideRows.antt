@@ -1,38 +1,33 @@
 -- One cell by the kind of its node: the cells that the evaluator calls on, and its answer from theirs.
-use Prim.Native.Nat.{ℕ, zero, suc, _+_, _*_, _<_, _≤_}
+use Prim.Native.Nat.{ℕ, _+_, _*_, _<_, _≤_}
 use mathlib.Core.Path.{_≡_, refl, sym, ap, ap₂, subst, _∙_}
-use mathlib.Core.Bool.{Bool, true, false, not, Bool·beq}
+use mathlib.Core.Bool.{Bool, true, false, Bool·beq}
 use mathlib.Core.List.{List, [], _∷_}
-use mathlib.Core.Logic.{_⊎_, inl, inr}
 use native.Mathlib.Omega.{arith}
-use lib.ListN.{length, getD, set}
+use lib.ListN.{length, getD}
 use lib.Dec.{eqb}
 use borrow.Author.Tests.{eq-eqb, ne-eqb}
 use Rattle.sheet.specs.Bytes.{pick}
 use Rattle.sheet.specs.Contents.{planBody, actionsBody, ruleBody}
 use Rattle.sheet.specs.Plan.{stateCount, actionCount}
 use Rattle.sheet.specs.Actions.{entryCount}
-use Rattle.sheet.specs.Rule.{nodeCount, nodeKind, nodeX, nodeY, binderNode, binderCount}
-use Rattle.sheet.specs.Rules.{BodiesKept, RuleKept}
+use Rattle.sheet.specs.Rule.{nodeCount, nodeKind, nodeX, nodeY, binderNode}
 use Rattle.sheet.specs.Reading.{sheetCheck}
 use Rattle.sheet.specs.declared.Check.the-variants.{Passed}
 use Rattle.calculus.specs.Decode.{planOf}
 use Rattle.calculus.proofs.Variables.{Above}
 use Rattle.judge.specs.Rows.{Connective, disjunction, conjunction, Row, deciding, decides}
-use Rattle.judge.specs.Tables.{Result, out, constant, byteOf}
-use Rattle.judge.specs.Solver.{walk}
-use Rattle.judge.specs.Cells.{Cell, cell, only, following, opened, outer, constantOf, rows, indexOf, marks}
+use Rattle.judge.specs.Tables.{constant}
+use Rattle.judge.specs.Cells.{Cell, cell, only, following, opened, outer, constantOf, rows, indexOf}
 use Rattle.judge.specs.Clearing.{sizeOf}
-use Rattle.judge.specs.Deciding.{Prepared, Decidable, Following, NodeAt, resultAt, verdictIn, visitsIn, Known, Joined, CellFilled, Decided, connectiveOf, Followed}
+use Rattle.judge.specs.Deciding.{Prepared, Decidable, Following, NodeAt, connectiveOf}
 use Rattle.judge.proofs.Systems.{Each}
 use Rattle.judge.proofs.BindersAbove.{bound-above, above-below, above-counted}
 use Rattle.judge.proofs.ValidCells.{Valid}
 use Rattle.judge.proofs.Ranks.{rank, falling}
 use Rattle.judge.proofs.CellLayout.{layout}
 use Rattle.judge.proofs.FollowWalk.{walkRank}
-use Rattle.judge.proofs.QuerySteps.{walk-none, walk-only, walk-both}
-use Rattle.judge.proofs.Solver.{walk-decided}
-use Rattle.judge.proofs.DecideSteps.{bodies, valid, decidable, known-cell, filled-cell}
+use Rattle.judge.proofs.DecideSteps.{bodies, valid, decidable}
 
 -- ---- the rows, by the kind
 

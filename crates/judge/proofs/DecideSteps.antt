@@ -1,39 +1,36 @@
 -- What the evaluator's code shows of one cell: validity of the cells that it calls on, and its answer from theirs.
-use Prim.Native.Nat.{ℕ, zero, suc, _+_, _*_, _-_, _/_, _%_, _<_, _≤_}
-use mathlib.Core.Path.{_≡_, refl, sym, ap, subst, _∙_}
-use mathlib.Core.Bool.{Bool, true, false, not, _&&_, Bool·beq}
-use mathlib.Core.List.{List, [], _∷_}
+use Prim.Native.Nat.{ℕ, zero, suc, _+_, _*_, _-_, _<_, _≤_}
+use mathlib.Core.Path.{_≡_, refl, sym, ap, _∙_}
+use mathlib.Core.Bool.{true}
+use mathlib.Core.List.{List}
 use native.Mathlib.Omega.{arith}
-use native.Mathlib.Numerals.{add-one, sub-one}
+use native.Mathlib.Numerals.{add-one}
 use native.Mathlib.Nat.{mul-le-mul}
-use lib.ListN.{length, getD, set}
-use lib.Dec.{eqb, ltb}
+use lib.ListN.{length, set}
+use lib.Dec.{ltb}
 use borrow.Author.Tests.{eq-eqb, ne-eqb, ltb-true}
-use Rattle.sheet.specs.Bytes.{pick}
 use Rattle.sheet.specs.Contents.{planBody, actionsBody, ruleBody}
-use Rattle.sheet.specs.Plan.{stateCount, actionCount}
+use Rattle.sheet.specs.Plan.{stateCount}
 use Rattle.sheet.specs.Actions.{entryCount}
-use Rattle.sheet.specs.Rule.{nodeCount, nodeKind, nodeX, nodeY, binderNode, binderCount, below}
+use Rattle.sheet.specs.Rule.{nodeCount, binderNode}
 use Rattle.sheet.specs.Rules.{BodiesKept, RuleKept}
 use Rattle.sheet.specs.Reading.{sheetCheck}
 use Rattle.sheet.specs.declared.Check.the-variants.{Passed}
 use Rattle.sheet.proofs.Accepted.{accepted-iff}
 use Rattle.sheet.proofs.Checks.{both}
-use Rattle.calculus.specs.Decode.{planOf}
-use Rattle.judge.specs.Rows.{Connective, disjunction, conjunction, Row, deciding, decides}
-use Rattle.judge.specs.Tables.{byteAt, empty, known, Result, out, visits, constant, byteOf}
+use Rattle.judge.specs.Rows.{Row}
+use Rattle.judge.specs.Tables.{byteAt, known, out, visits, byteOf}
 use Rattle.judge.specs.Solver.{fillCell, walk}
 use Rattle.judge.specs.Loops.{settled}
-use Rattle.judge.specs.Cells.{Cell, cell, only, following, opened, outer, constantOf, rows, enough, marks, cellCount, indexOf, cellAt, successors, MarkRight, CellOf}
+use Rattle.judge.specs.Cells.{Cell, opened, outer, rows, enough, indexOf, cellAt, successors, MarkRight, CellOf}
 use Rattle.judge.specs.Clearing.{sizeOf}
-use Rattle.judge.specs.Deciding.{Prepared, Decidable, Following, resultAt, verdictIn, visitsIn, Known, Joined, CellFilled, Decided, connectiveOf, walkAt, Followed}
-use Rattle.judge.proofs.Systems.{Each, Solvable}
+use Rattle.judge.specs.Deciding.{Prepared, Decidable, resultAt, verdictIn, visitsIn, Known, CellFilled, Decided}
+use Rattle.judge.proofs.Systems.{Solvable}
 use Rattle.judge.proofs.BindersAbove.{above-below, below-above, above-counted, below-tested, tested-below}
-use Rattle.judge.proofs.ValidCells.{Marked, Valid, valid-entries}
-use Rattle.judge.proofs.Ranks.{rank, falling}
-use Rattle.judge.proofs.CellLayout.{layout, solvable}
-use Rattle.judge.proofs.QuerySteps.{query-row, query-known, query-visits-bound, walk-none, walk-only, walk-both}
-use Rattle.judge.proofs.Solver.{walk-decided}
+use Rattle.judge.proofs.ValidCells.{Marked, Valid}
+use Rattle.judge.proofs.Ranks.{rank}
+use Rattle.judge.proofs.CellLayout.{solvable}
+use Rattle.judge.proofs.QuerySteps.{query-row, query-known, query-visits-bound}
 
 pub outer-zero : (k m : ℕ) → m ≡ 0 → true ≡ outer k m
 outer-zero k zero h = refl

@@ -1,7 +1,7 @@
 -- Demand 3 of the running calls: whatever keeps the contracts of `clear` and `query` delivers it.
 use Prim.Native.Nat.{ℕ}
 use mathlib.Core.Path.{_≡_, refl, sym, ap, subst, _∙_}
-use mathlib.Core.List.{List, [], _∷_}
+use mathlib.Core.List.{List, _∷_}
 use Rattle.calculus.specs.Exchange.{exchanged}
 use Rattle.judge.specs.Clearing.{tableCleared, ClearReport, reportedClear}
 use Rattle.judge.specs.Querying.{queriedOf, QueryReport, reportedQuery}

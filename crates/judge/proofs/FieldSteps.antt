@@ -1,14 +1,14 @@
 -- What the evaluator's reads of an accepted sheet give, and the arithmetic of a verdict packed with its visits.
 use Prim.Native.Nat.{ℕ, _+_, _*_, _/_, _%_, _<_, _≤_}
 use mathlib.Core.Path.{_≡_, refl, sym, ap, _∙_}
-use mathlib.Core.Bool.{Bool, true, false}
+use mathlib.Core.Bool.{true, false}
 use mathlib.Core.List.{List}
 use native.Mathlib.Omega.{arith}
 use native.Mathlib.Nat.{mul-le-mul}
-use lib.ListN.{length, getD, take, drop}
+use lib.ListN.{length, take, drop}
 use lib.Seq.{getD-take, getD-drop}
 use lib.Dec.{eqb}
-use borrow.Author.Tests.{eq-eqb, ne-eqb, eqb-true, eqb-false}
+use borrow.Author.Tests.{eq-eqb, ne-eqb}
 use Rattle.sheet.specs.Bytes.{byte}
 use Rattle.sheet.specs.Contents.{headLength, planLength, ruleOffset, ruleLength, planBody, ruleBody}
 use Rattle.sheet.specs.Plan.{transitionCount}
@@ -17,8 +17,8 @@ use Rattle.sheet.specs.Rules.{SheetKept}
 use Rattle.sheet.specs.Reading.{sheetCheck}
 use Rattle.sheet.specs.declared.Check.the-variants.{Passed}
 use Rattle.sheet.proofs.Accepted.{accepted-iff, plan-length, rule-length}
-use Rattle.judge.specs.Tables.{known, byteOf}
-use Rattle.judge.specs.Deciding.{verdictIn, visitsIn, Known, Joined, CellFilled}
+use Rattle.judge.specs.Tables.{byteOf}
+use Rattle.judge.specs.Deciding.{verdictIn, Known, Joined, CellFilled}
 
 part-byte : (s : List ℕ) (offset size j : ℕ) → j < size → byte (take size (drop offset s)) j ≡ byte s (offset + j)
 part-byte s offset size j h = getD-take size (drop offset s) j 0 h ∙ getD-drop offset s j 0

@@ -1,43 +1,23 @@
 -- The walk over the transitions of a state, one transition a turn.
-use Prim.Native.Nat.{ℕ, zero, suc, _+_, _*_, _-_, _<_, _≤_}
-use mathlib.Core.Path.{_≡_, refl, sym, ap, subst, _∙_}
-use mathlib.Core.Bool.{Bool, true, false, not, _&&_, Bool·beq}
+use Prim.Native.Nat.{ℕ, zero, suc, _+_, _-_, _<_, _≤_}
+use mathlib.Core.Path.{_≡_, refl, sym, ap, _∙_}
+use mathlib.Core.Bool.{Bool, true, false, _&&_, Bool·beq}
 use mathlib.Core.List.{List, [], _∷_}
 use native.Mathlib.Omega.{arith}
 use native.Mathlib.Numerals.{add-one}
 use native.Mathlib.Nat.{add-assoc}
 use native.Mathlib.Decide.{decLt}
-use lib.ListN.{length, getD}
 use lib.Dec.{eqb}
 use borrow.Author.Tests.{eq-eqb, ne-eqb}
 use Rattle.sheet.specs.Bytes.{pick}
-use Rattle.sheet.specs.Contents.{planBody, actionsBody, ruleBody}
-use Rattle.sheet.specs.Plan.{stateCount, actionCount, transitionCount, origin, label, target}
-use Rattle.sheet.specs.Actions.{entryCount}
-use Rattle.sheet.specs.Rule.{nodeCount, nodeKind, nodeX, nodeY}
-use Rattle.sheet.specs.Rules.{BodiesKept}
-use Rattle.sheet.specs.Reading.{sheetCheck}
-use Rattle.sheet.specs.declared.Check.the-variants.{Passed}
-use Rattle.sheet.proofs.Parts.{modal-part, part-after}
+use Rattle.sheet.specs.Plan.{transitionCount, origin, label, target}
 use Rattle.calculus.specs.Meaning.{meets}
-use Rattle.calculus.specs.Meeting.{bit, meetingMask}
-use Rattle.calculus.specs.Decode.{planOf, actionFormula, transitionsFrom}
-use Rattle.calculus.proofs.Masks.{meeting-bit}
-use Rattle.calculus.proofs.Nodes.{node-part}
-use Rattle.judge.specs.Rows.{Connective, disjunction, conjunction, deciding, decides}
+use Rattle.calculus.specs.Decode.{actionFormula, transitionsFrom}
+use Rattle.judge.specs.Rows.{disjunction, conjunction, deciding, decides}
 use Rattle.judge.specs.Tables.{Result, out}
-use Rattle.judge.specs.Solver.{after, walk}
-use Rattle.judge.specs.Loops.{settled}
-use Rattle.judge.specs.Cells.{Cell, cell, following, successors}
-use Rattle.judge.specs.Clearing.{sizeOf}
-use Rattle.judge.specs.Deciding.{firstFrom, Prepared, Following, Decidable, resultAt, verdictIn, visitsIn, Joined, Decided, connectiveOf, walkAt, Followed}
-use Rattle.judge.proofs.Height.{height, height-falls, successor-settled}
-use Rattle.judge.proofs.Outgoing.{first-bound, first-below, first-from, among, successor-at}
-use Rattle.judge.proofs.ValidCells.{Valid}
-use Rattle.judge.proofs.Ranks.{rank, level, level-few}
-use Rattle.judge.proofs.Solver.{walk-decided, walk-on}
-use Rattle.judge.proofs.QuerySteps.{walk-none}
-use Rattle.judge.proofs.DecideSteps.{bodies, decidable}
+use Rattle.judge.specs.Solver.{after}
+use Rattle.judge.specs.Cells.{Cell, cell, following}
+use Rattle.judge.specs.Deciding.{connectiveOf}
 
 after-after : (m n : ℕ) (r : Result) → after m (after n r) ≡ after (m + n) r
 after-after m n (out v k t) = ap (λ (x : ℕ). out v x t) (sym (add-assoc m n k))

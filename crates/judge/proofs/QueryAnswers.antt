@@ -1,27 +1,26 @@
 -- What the code of a query shows: each answer is the one that the checks give.
 use Prim.Native.Nat.{ℕ, _+_, _-_, _<_, _≤_}
 use mathlib.Core.Path.{_≡_, refl, sym, ap, _∙_}
-use mathlib.Core.Bool.{Bool, true, false, not}
+use mathlib.Core.Bool.{Bool, true, false}
 use mathlib.Core.List.{List}
 use native.Mathlib.Omega.{arith}
 use native.Mathlib.Decide.{decLt}
 use lib.ListN.{length}
-use lib.Dec.{eqb, ltb, leb}
+use lib.Dec.{ltb, leb}
 use borrow.Author.Tests.{lt-ltb, le-ltb, le-leb, lt-leb, eq-eqb, ne-eqb}
 use Rattle.sheet.specs.Bytes.{pick, lowestFrom, lowest}
 use Rattle.sheet.proofs.Lowest.{search-start, search-here, search-next, search-end}
-use Rattle.sheet.specs.Contents.{planBody, actionsBody, ruleBody}
+use Rattle.sheet.specs.Contents.{planBody}
 use Rattle.sheet.specs.Plan.{stateCount}
-use Rattle.sheet.specs.Rules.{BodiesKept}
 use Rattle.sheet.specs.Reading.{sheetCheck}
 use Rattle.sheet.specs.declared.Refusal.{Refusal}
 use Rattle.sheet.specs.declared.Refusal.the-variants.{NoSuchState, Loop, TableShort, TableByte}
 use Rattle.sheet.specs.declared.Check.{Check}
 use Rattle.sheet.specs.declared.Check.the-variants.{Passed, Failed}
 use Rattle.judge.specs.Tables.{byteAt, Result, out, verdict, visits, table}
-use Rattle.judge.specs.Cells.{cell, successors}
+use Rattle.judge.specs.Cells.{cell}
 use Rattle.judge.specs.Clearing.{sizeOf}
-use Rattle.judge.specs.Querying.{loopless, bytesRight, queryCheck, resultOf, answerQueried, queriedOf, leftBy, tableQueried, reportedQuery, reportQuery, queryReportOf}
+use Rattle.judge.specs.Querying.{loopless, bytesRight, queryCheck, resultOf, answerQueried, queriedOf, tableQueried, reportedQuery, reportQuery, queryReportOf}
 use Rattle.judge.specs.Deciding.{Prepared, Decidable, Decided, verdictIn, visitsIn}
 use Rattle.judge.specs.Delivered.{Queries}
 use Rattle.judge.specs.declared.Queried.{Queried}

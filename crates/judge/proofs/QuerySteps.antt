@@ -1,18 +1,18 @@
 -- One step of a query by its row: what a query of a cell is, from the queries of the entries of its row.
-use mathlib.Core.Bool.{Bool, true, false, not, Bool·beq}
+use mathlib.Core.Bool.{Bool, true, false, not}
 use mathlib.Core.List.{List, [], _∷_}
 use mathlib.Core.Path.{_≡_, refl, sym, ap, _∙_}
-use Prim.Native.Nat.{ℕ, suc, _+_, _<_, _≤_}
+use Prim.Native.Nat.{ℕ, suc, _+_, _≤_}
 use native.Mathlib.Omega.{arith}
-use lib.ListN.{length, set}
+use lib.ListN.{length}
 use Rattle.judge.specs.Rows.{Connective, Row, deciding, decides}
-use Rattle.judge.specs.Tables.{byteAt, empty, known, byteOf, Result, out, visits, count, fills, query}
+use Rattle.judge.specs.Tables.{byteAt, empty, known, Result, out, visits, query}
 use Rattle.judge.specs.Solver.{after, fillCell, walk, step, solve}
 use Rattle.judge.proofs.Systems.{Each, Solvable}
 use Rattle.judge.proofs.Fuel.{each-map}
 use Rattle.judge.proofs.Bytes.{count-le}
 use Rattle.judge.proofs.Solver.{step-empty, step-filled, walk-decided, walk-on}
-use Rattle.judge.proofs.Walks.{query-answer, answer, Solves, walk-solves}
+use Rattle.judge.proofs.Walks.{query-answer, Solves, walk-solves}
 use Rattle.judge.proofs.Solved.{solve-answer}
 
 module _ {C : Type 0} {index : C → ℕ} {rows : C → Row C} {size : ℕ} {cellAt : ℕ → C} {Valid : C → Type 0} {rank : C → ℕ} {F : ℕ} (s : Solvable index rows size cellAt Valid rank F) where

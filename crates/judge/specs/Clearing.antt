@@ -1,6 +1,5 @@
 -- Clearing: what it answers and what it leaves in the table's buffer, for every list of bytes as sheet and as buffer.
 use Prim.Native.Nat.{ℕ}
-use mathlib.Core.Bool.{Bool}
 use mathlib.Core.List.{List, _++_}
 use lib.ListN.{length, drop, replicate}
 use lib.Dec.{leb}

@@ -1,5 +1,5 @@
 -- What the evaluator of a query works with. Contracts of private functions cite these; no promise of a public call does.
-use Prim.Native.Nat.{ℕ, zero, suc, _+_, _*_, _<_, _≤_, _/_, _%_}
+use Prim.Native.Nat.{ℕ, _+_, _<_, _≤_, _/_, _%_}
 use mathlib.Core.Path.{_≡_}
 use mathlib.Core.Bool.{Bool, true}
 use mathlib.Core.List.{List}
@@ -8,7 +8,7 @@ use lib.Dec.{leb, eqb}
 use Rattle.sheet.specs.Bytes.{pick, lowest}
 use Rattle.sheet.specs.Contents.{planBody, actionsBody, ruleBody, ruleOffset}
 use Rattle.sheet.specs.Plan.{stateCount, actionCount, transitionCount, origin, label}
-use Rattle.sheet.specs.Rule.{nodeCount, nodeKind, nodeX, nodeY, binderNode, binderCount, below}
+use Rattle.sheet.specs.Rule.{nodeCount, nodeKind, nodeX, nodeY, binderNode}
 use Rattle.sheet.specs.Reading.{sheetCheck}
 use Rattle.sheet.specs.declared.Check.the-variants.{Passed}
 use Rattle.calculus.specs.Decode.{planOf}
@@ -17,7 +17,7 @@ use Rattle.judge.specs.Rows.{Connective, disjunction, conjunction}
 use Rattle.judge.specs.Tables.{Result, out, known, query}
 use Rattle.judge.specs.Solver.{walk}
 use Rattle.judge.specs.Loops.{settled}
-use Rattle.judge.specs.Cells.{Cell, cell, MarkRight, following, rows, enough, indexOf, cellAt, marks, successors}
+use Rattle.judge.specs.Cells.{Cell, MarkRight, following, rows, enough, indexOf, cellAt, marks, successors}
 use Rattle.judge.specs.Clearing.{sizeOf}
 
 -- transitions stand in the order of their origins: the first of state s or of a later one, or T

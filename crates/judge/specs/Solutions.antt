@@ -4,13 +4,10 @@ use mathlib.Core.Bool.{Bool}
 use mathlib.Core.List.{List, _∷_}
 use Prim.Native.Nat.{ℕ}
 use Rattle.sheet.specs.Contents.{planBody, actionsBody, ruleBody}
-use Rattle.sheet.specs.Reading.{sheetCheck}
-use Rattle.sheet.specs.declared.Check.the-variants.{Passed}
 use Rattle.judge.specs.Rows.{Row, looked, Solution, value, need}
 use Rattle.judge.specs.Tables.{changed}
 use Rattle.judge.specs.Loops.{Way}
 use Rattle.judge.specs.Cells.{Cell, CellOf, rows, enough, indexOf}
-use Rattle.judge.specs.Querying.{NoLoop}
 
 -- the rows of a sheet as written
 abbrev pub writtenRows : List ℕ → Cell → Row Cell

@@ -1,5 +1,5 @@
 -- DAGSOLVE (document 000, Figure 1) as a function that hands the table on: a filled cell is looked up; an empty one has its row's entries solved in order up to the first that decides, and then its own byte set.
-use mathlib.Core.Bool.{Bool, true, false, not}
+use mathlib.Core.Bool.{true, false, not}
 use mathlib.Core.List.{List, [], _∷_}
 use Prim.Native.Nat.{ℕ, zero, suc, _+_}
 use lib.ListN.{set}

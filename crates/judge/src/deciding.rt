@@ -19,7 +19,7 @@ use sheet::State;
 use sheet::Variable;
 ghost use mathlib.Core.Path.{_≡_};
 ghost use mathlib.Core.Bool.{Bool·beq};
-ghost use Prim.Native.Nat.{_+_, _*_, _<_, _≤_};
+ghost use Prim.Native.Nat.{_+_, _<_, _≤_};
 ghost use lib.Dec.{eqb};
 ghost use Rattle.sheet.specs.Bytes.{pick};
 ghost use Rattle.sheet.specs.Contents.{ruleBody};

@@ -16,7 +16,6 @@ use Rattle.sheet.specs.Rule.{nodeCount, nodeKind, nodeX, bindersBefore}
 use Rattle.sheet.specs.declared.Fields.{Fields}
 use Rattle.sheet.proofs.Parts.{BinderPart, part-after, binder-part}
 use Rattle.sheet.proofs.Binders.{binders-next, binders-rise}
-use Rattle.calculus.specs.Formulas.{least, greatest}
 use Rattle.calculus.specs.Plans.{Wellformed}
 use Rattle.calculus.specs.Decode.{planOf}
 use Rattle.calculus.proofs.Verdicts.{sheet-wellformed}

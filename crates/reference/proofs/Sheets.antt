@@ -12,7 +12,7 @@ use Rattle.calculus.specs.Meaning.{meets}
 use Rattle.calculus.specs.Decode.{transitionsFrom, actionWithin, formulaWithin}
 use Rattle.calculus.specs.Eval.{eval, rounds, tabulate, valuesBelow, anyTransition, departs}
 use Rattle.calculus.specs.KeySheet.{K}
-use Rattle.reference.specs.Reference.{inMeaning, wordUpTo, meaningWord, Referring, referringOf}
+use Rattle.reference.specs.Reference.{inMeaning, wordUpTo, meaningWord, referringOf}
 
 -- "P5: K, reference: 3."
 pub P5 : referringOf K ≡ record { number = 0; place = 0; word = 3 }

@@ -38,7 +38,7 @@ module _ (p a r out : List ℕ) where
       go Passed f g = (f, sym (ap size g))
       go (Failed x) f g = absurd (let z : _≡_ {A = ℕ} 0 1 = cc in omega arith)
 
-  -- "Reading what the writer wrote gives back the three bodies."
+  -- reading what the writer wrote gives back the three bodies
   pub write-then-read : (n : ℕ) → writtenOf p a r (length out) ≡ Wrote n → WroteThenRead p a r out n
   unfolding outputAfter writeCheck
   write-then-read n e =
@@ -52,7 +52,7 @@ module _ (p a r out : List ℕ) where
         back = read-written p a r (b .0);
       }
 
--- "Writing an accepted sheet's bodies gives back its bytes, byte for byte": the writer takes them, and the sheet stands at the front of the output.
+-- writing an accepted sheet's bodies gives back its bytes, byte for byte: the writer takes them, and the sheet stands at the front of the output.
 pub record ReadThenWrote (s out : List ℕ) : Type 0 where
   pub answer : writtenOf (planBody s) (actionsBody s) (ruleBody s) (length out) ≡ Wrote (length s)
   pub output : outputAfter (planBody s) (actionsBody s) (ruleBody s) out ≡ s ++ drop (length s) out

@@ -19,7 +19,7 @@ use Rattle.sheet.proofs.Accepted.{bodies-iff, accepted-iff, read-accept
 two-bytes : (n : ℕ) → n < 65536 → n % 256 + 256 * (n / 256 % 256) ≡ n
 two-bytes n h = omega arith
 
--- "Reading what the writer wrote gives back the three bodies."
+-- reading what the writer wrote gives back the three bodies
 pub record ReadBack (p a r : List ℕ) : Type 0 where
   pub passed : sheetCheck (sheetOf p a r) ≡ Passed
   pub plan-is : planBody (sheetOf p a r) ≡ p
@@ -154,7 +154,7 @@ module _ (s : List ℕ) (bytes : (k : ℕ) → byte s k < 256) (k : SheetKept s)
       ap (λ (t : List ℕ). planBody s ++ t) (take-append-drop (actionsLength s) (drop (actionsOffset s) s) ∙ sym (drop-drop (planLength s) headLength s)) ∙
       take-append-drop (planLength s) (drop headLength s)
 
--- "Writing an accepted sheet's bodies gives back its bytes, byte for byte."
+-- writing an accepted sheet's bodies gives back its bytes, byte for byte
 pub written-read : (s : List ℕ) → ((k : ℕ) → byte s k < 256) → sheetCheck s ≡ Passed → sheetOf (planBody s) (actionsBody s) (ruleBody s) ≡ s
 unfolding sheetOf
 written-read s bytes q =

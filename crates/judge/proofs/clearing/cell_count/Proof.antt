@@ -1,7 +1,5 @@
 -- `judge::clearing::cell_count` meets its contract.
 use borrow.Author.Needs.{needs}
-use native.Mathlib.Omega.{arith}
-use mathlib.Core.Path.{sym, ap, _∙_}
 use Rattle.judge.proofs.clearing.cell_count.Statement.{statement}
 use Rattle.judge.proofs.clearing.cell_count.Tie as tie
 

@@ -1,6 +1,6 @@
 -- `judge::clearing::zero` meets its contract. Of the loop: the first i bytes are 0.
 use native.Mathlib.Omega.{arith}
-use mathlib.Core.Path.{_≡_, refl, sym, ap, _∙_}
+use mathlib.Core.Path.{_≡_, refl, ap, _∙_}
 use mathlib.Core.List.{List, _++_}
 use Prim.Native.Nat.{ℕ, _-_, _≤_, _+_}
 use denote.Ref.{now}

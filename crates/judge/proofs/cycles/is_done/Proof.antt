@@ -1,6 +1,5 @@
 -- `judge::cycles::is_done` meets its contract.
 use borrow.Author.Needs.{needs}
-use native.Mathlib.Omega.{arith}
 use Rattle.judge.proofs.cycles.is_done.Statement.{statement}
 use Rattle.judge.proofs.cycles.is_done.Tie as tie
 

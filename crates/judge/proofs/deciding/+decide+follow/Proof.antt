@@ -1,11 +1,9 @@
 -- Deciding a cell and following its transitions meet their contracts. The measure: twice the falling number of the cell; for the walk, a number between those of its cells and of the cells that it calls on.
 use native.Mathlib.Omega.{arith}
 use borrow.Author.Needs.{needs}
-use mathlib.Core.Path.{_≡_, refl, sym, ap, _∙_}
-use mathlib.Core.List.{List}
-use Prim.Native.Nat.{ℕ, _<_, _+_, _*_, _-_, _≤_}
+use mathlib.Core.Path.{refl, sym, ap, _∙_}
+use Prim.Native.Nat.{ℕ, _<_, _+_, _*_, _-_}
 use denote.Ref.{now}
-use lib.ListN.{length}
 use Rattle.sheet.specs.Contents.{planBody, ruleBody}
 use Rattle.judge.specs.Cells.{cell}
 use Rattle.judge.specs.Deciding.{Following}

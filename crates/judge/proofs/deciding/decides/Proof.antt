@@ -1,7 +1,6 @@
 -- `judge::deciding::decides` meets its contract.
 use borrow.Author.Needs.{needs}
-use native.Mathlib.Omega.{arith}
-use mathlib.Core.Path.{sym, ap, _∙_}
+use mathlib.Core.Path.{ap}
 use mathlib.Core.Bool.{Bool, Bool·beq}
 use Rattle.judge.proofs.deciding.decides.Statement.{statement}
 use Rattle.judge.proofs.deciding.decides.Tie as tie

@@ -1,7 +1,7 @@
 -- `judge::fields::binder_of` meets its contract.
 use borrow.Author.Needs.{needs}
 use native.Mathlib.Omega.{arith}
-use mathlib.Core.Path.{sym, ap, _∙_}
+use mathlib.Core.Path.{ap, _∙_}
 use Prim.Native.Nat.{ℕ, _+_}
 use lib.ListN.{getD}
 use denote.Ref.{now}

@@ -1,6 +1,5 @@
 -- `judge::fields::both` meets its contract.
 use borrow.Author.Needs.{needs}
-use native.Mathlib.Omega.{arith}
 use Rattle.judge.proofs.FieldSteps.{joined}
 use Rattle.judge.proofs.fields.both.Statement.{statement}
 use Rattle.judge.proofs.fields.both.Tie as tie

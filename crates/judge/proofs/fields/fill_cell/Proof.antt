@@ -1,8 +1,6 @@
 -- `judge::fields::fill_cell` meets its contract.
 use borrow.Author.Needs.{needs}
-use native.Mathlib.Omega.{arith}
 use mathlib.Core.Path.{sym, ap, _∙_}
-use Prim.Native.Nat.{ℕ}
 use denote.Ref.{now}
 use lib.ListN.{set}
 use Rattle.judge.proofs.FieldSteps.{cell-filled, true-byte, false-byte}

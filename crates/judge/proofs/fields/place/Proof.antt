@@ -1,7 +1,6 @@
 -- `judge::fields::place` meets its contract.
 use borrow.Author.Needs.{needs}
 use native.Mathlib.Omega.{arith}
-use mathlib.Core.Path.{sym, ap, _∙_}
 use Rattle.judge.proofs.FieldSteps.{place-small, place-fits}
 use Rattle.judge.proofs.fields.place.Statement.{statement}
 use Rattle.judge.proofs.fields.place.Tie as tie

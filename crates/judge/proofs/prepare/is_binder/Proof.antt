@@ -1,7 +1,7 @@
 -- `judge::prepare::is_binder` meets its contract.
 use borrow.Author.Needs.{needs}
 use borrow.Author.Tests.{le-leb, lt-leb}
-use mathlib.Core.Path.{_≡_, ap}
+use mathlib.Core.Path.{ap}
 use Rattle.sheet.specs.declared.Fields.{Fields}
 use Rattle.judge.proofs.prepare.is_binder.Statement.{statement}
 use Rattle.judge.proofs.prepare.is_binder.Tie as tie

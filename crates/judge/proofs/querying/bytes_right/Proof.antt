@@ -1,7 +1,7 @@
 -- `judge::querying::bytes_right` meets its contract. Of the loop: what the largest byte before i tells.
 use native.Mathlib.Omega.{arith}
 use borrow.Author.Needs.{needs}
-use mathlib.Core.Path.{_≡_, sym, subst}
+use mathlib.Core.Path.{sym, subst}
 use Prim.Native.Nat.{_+_, _-_, _≤_}
 use denote.Ref.{now}
 use Rattle.judge.proofs.QueryAnswers.{Largest, largest-start, largest-next, largest-end}

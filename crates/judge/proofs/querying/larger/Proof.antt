@@ -1,8 +1,5 @@
 -- `judge::querying::larger` meets its contract.
-use mathlib.Core.Path.{_≡_, sym, ap}
-use mathlib.Core.Bool.{Bool}
 use borrow.Author.Tests.{lt-ltb, le-ltb}
-use Rattle.sheet.specs.Bytes.{pick}
 use Rattle.judge.proofs.querying.larger.Statement.{statement}
 use Rattle.judge.proofs.querying.larger.Tie as tie
 

@@ -1,7 +1,6 @@
 -- `judge::querying::query` meets its contract.
 use borrow.Author.Needs.{needs}
-use native.Mathlib.Omega.{arith}
-use mathlib.Core.Path.{sym, ap, _∙_}
+use mathlib.Core.Path.{sym, _∙_}
 use denote.Ref.{now}
 use Rattle.judge.proofs.QueryAnswers.{refused}
 use Rattle.judge.proofs.querying.query.Statement.{statement}
