@@ -35,37 +35,32 @@ fn sized(r: &[u8]) -> bool
     r.len() == 1 + 3 * count
 }
 
-fn kind_at(r: &[u8], n: usize) -> usize
-    requires { ⌜ n < 65536 ⌝ }
-    ensures { λ k. ⌜ (k ≡ nodeKind (now (r .entry)) n) × (k < 256) ⌝ }
+fn kind_at(r: &[u8], n: Node) -> usize
+    ensures { λ k. ⌜ (k ≡ nodeKind (now (r .entry)) (n .0)) × (k < 256) ⌝ }
 {
-    byte_at(r, 1 + 3 * n)
+    byte_at(r, 1 + 3 * (n.0 as usize))
 }
 
-fn x_at(r: &[u8], n: usize) -> usize
-    requires { ⌜ n < 65536 ⌝ }
-    ensures { λ x. ⌜ (x ≡ nodeX (now (r .entry)) n) × (x < 256) ⌝ }
+fn x_at(r: &[u8], n: Node) -> usize
+    ensures { λ x. ⌜ (x ≡ nodeX (now (r .entry)) (n .0)) × (x < 256) ⌝ }
 {
-    byte_at(r, 2 + 3 * n)
+    byte_at(r, 2 + 3 * (n.0 as usize))
 }
 
-fn y_at(r: &[u8], n: usize) -> usize
-    requires { ⌜ n < 65536 ⌝ }
-    ensures { λ y. ⌜ (y ≡ nodeY (now (r .entry)) n) × (y < 256) ⌝ }
+fn y_at(r: &[u8], n: Node) -> usize
+    ensures { λ y. ⌜ (y ≡ nodeY (now (r .entry)) (n .0)) × (y < 256) ⌝ }
 {
-    byte_at(r, 3 + 3 * n)
+    byte_at(r, 3 + 3 * (n.0 as usize))
 }
 
-fn leaf_right(r: &[u8], n: usize) -> bool
-    requires { ⌜ n < 65536 ⌝ }
-    ensures { λ b. ⌜ b ≡ (eqb (nodeX (now (r .entry)) n) 0 && eqb (nodeY (now (r .entry)) n) 0) ⌝ }
+fn leaf_right(r: &[u8], n: Node) -> bool
+    ensures { λ b. ⌜ b ≡ (eqb (nodeX (now (r .entry)) (n .0)) 0 && eqb (nodeY (now (r .entry)) (n .0)) 0) ⌝ }
 {
     both_zero(x_at(r, n), y_at(r, n))
 }
 
-fn variable_right(r: &[u8], n: usize) -> bool
-    requires { ⌜ n < 65536 ⌝ }
-    ensures { λ b. ⌜ b ≡ eqb (nodeY (now (r .entry)) n) 0 ⌝ }
+fn variable_right(r: &[u8], n: Node) -> bool
+    ensures { λ b. ⌜ b ≡ eqb (nodeY (now (r .entry)) (n .0)) 0 ⌝ }
 {
     y_at(r, n) == 0
 }
@@ -79,26 +74,23 @@ fn child_is(r: &[u8], child: usize, place: usize) -> bool
     false
 }
 
-fn x_is_child(r: &[u8], n: usize, place: usize) -> bool
-    requires { ⌜ n < 65536 ⌝ }
-    ensures { λ b. ⌜ b ≡ childIs (now (r .entry)) (nodeX (now (r .entry)) n) place ⌝ }
+fn x_is_child(r: &[u8], n: Node, place: usize) -> bool
+    ensures { λ b. ⌜ b ≡ childIs (now (r .entry)) (nodeX (now (r .entry)) (n .0)) place ⌝ }
 {
     child_is(r, x_at(r, n), place)
 }
 
-fn y_is_child(r: &[u8], n: usize, place: usize) -> bool
-    requires { ⌜ n < 65536 ⌝ }
-    ensures { λ b. ⌜ b ≡ childIs (now (r .entry)) (nodeY (now (r .entry)) n) place ⌝ }
+fn y_is_child(r: &[u8], n: Node, place: usize) -> bool
+    ensures { λ b. ⌜ b ≡ childIs (now (r .entry)) (nodeY (now (r .entry)) (n .0)) place ⌝ }
 {
     child_is(r, y_at(r, n), place)
 }
 
-fn modal_right(r: &[u8], entries: usize, n: usize) -> bool
-    requires { ⌜ n < 65536 ⌝ }
-    ensures { λ b. ⌜ b ≡ (ltb (nodeX (now (r .entry)) n) entries && childIs (now (r .entry)) (nodeY (now (r .entry)) n) (n + 1)) ⌝ }
+fn modal_right(r: &[u8], entries: usize, n: Node) -> bool
+    ensures { λ b. ⌜ b ≡ (ltb (nodeX (now (r .entry)) (n .0)) entries && childIs (now (r .entry)) (nodeY (now (r .entry)) (n .0)) (n .0 + 1)) ⌝ }
 {
     if x_at(r, n) < entries {
-        return y_is_child(r, n, n + 1);
+        return y_is_child(r, n, n.0 as usize + 1);
     }
     false
 }
@@ -108,22 +100,23 @@ fn node_part(r: &[u8], entries: usize, n: usize) -> Extent
     requires { ⌜ NodeOf (now r) n ⌝ }
     ensures { λ x. ⌜ Ended entries (now (r .entry)) n x ⌝ }
 {
-    let k = kind_at(r, n);
+    let node = Node(n as u8);
+    let k = kind_at(r, node);
     match k {
         0..=1 => {
-            if leaf_right(r, n) {
+            if leaf_right(r, node) {
                 Extent::Ends(n + 1)
             } else {
                 Extent::Faulty(n)
             }
         }
         2..=3 => {
-            if x_is_child(r, n, n + 1) {
+            if x_is_child(r, node, n + 1) {
                 let first = node_part(r, entries, n + 1);
                 match first {
                     Extent::Faulty(m) => Extent::Faulty(m),
                     Extent::Ends(e) => {
-                        if y_is_child(r, n, e) {
+                        if y_is_child(r, node, e) {
                             node_part(r, entries, e)
                         } else {
                             Extent::Faulty(n)
@@ -135,21 +128,21 @@ fn node_part(r: &[u8], entries: usize, n: usize) -> Extent
             }
         }
         4..=5 => {
-            if modal_right(r, entries, n) {
+            if modal_right(r, entries, node) {
                 node_part(r, entries, n + 1)
             } else {
                 Extent::Faulty(n)
             }
         }
         6 => {
-            if variable_right(r, n) {
+            if variable_right(r, node) {
                 Extent::Ends(n + 1)
             } else {
                 Extent::Faulty(n)
             }
         }
         7..=8 => {
-            if y_is_child(r, n, n + 1) {
+            if y_is_child(r, node, n + 1) {
                 node_part(r, entries, n + 1)
             } else {
                 Extent::Faulty(n)
@@ -171,26 +164,15 @@ fn syntax_fault(r: &[u8], entries: usize) -> usize
     }
 }
 
-fn is_binder(r: &[u8], n: usize) -> bool
-    requires { ⌜ n < 65536 ⌝ }
-    ensures { λ b. ⌜ b ≡ isBinder (now (r .entry)) n ⌝ }
-{
-    let k = kind_at(r, n);
-    if 7 <= k {
-        return k < 9;
-    }
-    false
-}
-
 // How many binders stand among the first n nodes.
 fn binders_before(r: &[u8], n: usize) -> usize
-    requires { ⌜ n < 65536 ⌝ }
+    requires { ⌜ n < 256 ⌝ }
     ensures { λ b. ⌜ (b ≡ bindersBefore (now (r .entry)) n) × (b ≤ n) ⌝ }
 {
     let mut binders = 0;
     let mut at = 0;
     while at < n {
-        binders = binders_with(r, at, binders);
+        binders = binders_with(r, Node(at as u8), binders);
         at += 1;
     }
     binders
@@ -200,13 +182,14 @@ fn binders_before(r: &[u8], n: usize) -> usize
 fn is_binder_of(r: &[u8], n: Node, binders: usize, k: Variable) -> bool
     ensures { λ b. ⌜ b ≡ (isBinder (now (r .entry)) (n .0) && eqb binders (k .0)) ⌝ }
 {
-    if is_binder(r, n.0 as usize) {
+    if is_binder(r, n) {
         return binders == k.0 as usize;
     }
     false
 }
 
-// The place just after node n's part, where its last child's part ends: it may be no node, so it stays a plain number.
+// The place just after node n's part, where its last child's part ends: it may be no node, and on bytes that are no rule the way to it may
+// pass places that are none, so these stay plain numbers.
 fn end_of(r: &[u8], n: Node) -> usize
     ensures { λ e. ⌜ e ≡ partEnd (now (r .entry)) (n .0) ⌝ }
 {
@@ -214,12 +197,12 @@ fn end_of(r: &[u8], n: Node) -> usize
     let mut left: usize = 64;
     while 0 < left {
         left -= 1;
-        let k = kind_at(r, at);
+        let k = byte_at(r, 1 + 3 * at);
         if k < 2 {
             return at + 1;
         }
         if k < 4 {
-            at = y_at(r, at);
+            at = byte_at(r, 3 + 3 * at);
             continue;
         }
         if k == 6 {
@@ -238,12 +221,11 @@ fn binding_faulty(r: &[u8], n: Node, binders: usize) -> bool
     requires { ⌜ binders ≡ bindersBefore (now r) (n .0) ⌝ }
     ensures { λ b. ⌜ b ≡ bindingFaulty (now (r .entry)) (n .0) ⌝ }
 {
-    let at = n.0 as usize;
-    let k = kind_at(r, at);
+    let k = kind_at(r, n);
     if k < 6 {
         return false;
     }
-    let x = x_at(r, at);
+    let x = x_at(r, n);
     if k == 6 {
         return !is_below(r, binder_node(r, Variable(x as u8)), n);
     }
@@ -267,15 +249,16 @@ fn lowest_faulty(r: &[u8]) -> usize
         if binding_faulty(r, Node(n as u8), binders) {
             return n;
         }
-        binders = binders_with(r, n, binders);
+        binders = binders_with(r, Node(n as u8), binders);
         n += 1;
     }
     n
 }
 
-fn binders_with(r: &[u8], n: usize, binders: usize) -> usize
-    requires { ⌜ (n < 65536) × ((binders ≡ bindersBefore (now r) n) × (binders ≤ n)) ⌝ }
-    ensures { λ b. ⌜ (b ≡ bindersBefore (now (r .entry)) (n + 1)) × (b ≤ n + 1) ⌝ }
+// How many binders stand among node n and those before it; binders is the number before it.
+fn binders_with(r: &[u8], n: Node, binders: usize) -> usize
+    requires { ⌜ (binders ≡ bindersBefore (now r) (n .0)) × (binders ≤ n .0) ⌝ }
+    ensures { λ b. ⌜ (b ≡ bindersBefore (now (r .entry)) (n .0 + 1)) × (b ≤ n .0 + 1) ⌝ }
 {
     if is_binder(r, n) {
         return binders + 1;
@@ -316,6 +299,17 @@ pub fn node(rule: &[u8], n: Node) -> Fields
     fields_at(rule, n.0)
 }
 
+// Whether node n is a binder.
+pub fn is_binder(rule: &[u8], n: Node) -> bool
+    ensures { λ b. ⌜ b ≡ isBinder (now (rule .entry)) (n .0) ⌝ }
+{
+    let k = kind_at(rule, n);
+    if 7 <= k {
+        return k < 9;
+    }
+    false
+}
+
 // B, the number of binders.
 pub fn binder_count(rule: &[u8]) -> u8
     ensures { λ r. ⌜ r ≡ binderCount (now (rule .entry)) ⌝ }
@@ -334,7 +328,7 @@ pub fn binder_node(rule: &[u8], k: Variable) -> Node
         if is_binder_of(rule, Node(n as u8), binders, k) {
             return Node(n as u8);
         }
-        binders = binders_with(rule, n, binders);
+        binders = binders_with(rule, Node(n as u8), binders);
         n += 1;
     }
     Node(n as u8)
@@ -354,7 +348,7 @@ pub fn is_below(rule: &[u8], b: Node, n: Node) -> bool
 fn binder_above(r: &[u8], b: Node, n: Node) -> bool
     ensures { λ d. ⌜ d ≡ (isBinder (now (r .entry)) (b .0) && below (now (r .entry)) (b .0) (n .0)) ⌝ }
 {
-    if is_binder(r, b.0 as usize) {
+    if is_binder(r, b) {
         return is_below(r, b, n);
     }
     false

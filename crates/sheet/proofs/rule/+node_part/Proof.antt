@@ -34,20 +34,23 @@ abbrev claims : ℕ → node-part-lts.Claims
 claims t = (kind-at-reads.Asked, kind-at-reads.Learnt, variable-right-reads.Asked, variable-right-reads.Learnt, leaf-right-reads.Asked, leaf-right-reads.Learnt, x-is-child-reads.Asked, x-is-child-reads.Learnt, node-part-below t, node-part.Post, y-is-child-reads.Asked, y-is-child-reads.Learnt, modal-right-reads.Asked, modal-right-reads.Learnt)
 
 module _ (t : ℕ) where
+  cast-t9 : node-part-lts.Need-cast-t9 (claims t) (node-part-at t) node-part.Post
+  cast-t9 c = omega arith
+
   kind-at-requires : node-part-lts.Need-kind-at-requires (claims t) (node-part-at t) node-part.Post
   kind-at-requires c κs = omega arith
 
   variable-right-requires : node-part-lts.Need-variable-right-requires (claims t) (node-part-at t) node-part.Post
   variable-right-requires c κs = omega arith
 
-  add-t11 : node-part-lts.Need-add-t11 (claims t) (node-part-at t) node-part.Post
-  add-t11 c = omega arith
+  add-t13 : node-part-lts.Need-add-t13 (claims t) (node-part-at t) node-part.Post
+  add-t13 c = omega arith
 
   leaf-right-requires : node-part-lts.Need-leaf-right-requires (claims t) (node-part-at t) node-part.Post
   leaf-right-requires c κs = omega arith
 
-  add-t15 : node-part-lts.Need-add-t15 (claims t) (node-part-at t) node-part.Post
-  add-t15 c = omega arith
+  add-t17 : node-part-lts.Need-add-t17 (claims t) (node-part-at t) node-part.Post
+  add-t17 c = omega arith
 
   add-x-is-child : node-part-lts.Need-add-x-is-child (claims t) (node-part-at t) node-part.Post
   add-x-is-child c = omega arith
@@ -137,11 +140,12 @@ pub +node-part-spec : {M : Type 1} → statement M
 +node-part-spec =
     close μ-node-part
     (λ t. node-part-lts.spec (claims t) (node-part-at t) node-part.Post
+    (cast-t9 t)
     (kind-at-requires t)
     (variable-right-requires t)
-    (add-t11 t)
+    (add-t13 t)
     (leaf-right-requires t)
-    (add-t15 t)
+    (add-t17 t)
     (add-x-is-child t)
     (x-is-child-requires t)
     (add-node-part t)

@@ -3,9 +3,6 @@ use borrow.Author.Needs.{needs}
 use Rattle.sheet.proofs.rule.binder_above.Statement.{statement}
 use Rattle.sheet.proofs.rule.binder_above.Tie as tie
 
-cast-is-binder : tie.Need-cast-is-binder
-cast-is-binder c = search needs
-
 is-binder-requires : tie.Need-is-binder-requires
 is-binder-requires c κs = search needs
 
@@ -19,4 +16,4 @@ returns-2 : tie.Need-returns-2
 returns-2 c = rw (← c .before .is-binder .ensures, c .if1 .left)
 
 pub binder-above-spec : {M : Type 1} → statement M
-binder-above-spec = tie.close (tie.spec cast-is-binder is-binder-requires is-below-requires returns returns-2)
+binder-above-spec = tie.close (tie.spec is-binder-requires is-below-requires returns returns-2)

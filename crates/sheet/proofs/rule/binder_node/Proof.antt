@@ -35,8 +35,11 @@ cast-t10 c = omega arith
 returns : tie.Need-returns Inv-loop μ-loop
 returns c = search-here _ _ _ _ (omega arith) (rw (← c .before .before .before .loop .inv .1) (sym (c .before .is-binder-of .ensures) ∙ c .if1 .taken)) (c .before .before .before .loop .inv .3)
 
+cast-t8-2 : tie.Need-cast-t8-2 Inv-loop μ-loop
+cast-t8-2 c = omega arith
+
 binders-with-requires : tie.Need-binders-with-requires Inv-loop μ-loop
-binders-with-requires c κs = (omega arith, (c .before .before .before .loop .inv .1, omega arith))
+binders-with-requires c κs = (c .before .before .before .loop .inv .1, omega arith)
 
 add-n : tie.Need-add-n Inv-loop μ-loop
 add-n c = omega arith
@@ -65,6 +68,7 @@ binder-node-spec =
     is-binder-of-requires
     cast-t10
     returns
+    cast-t8-2
     binders-with-requires
     add-n
     loop-less

@@ -16,8 +16,11 @@ abbrev μ-loop : tie.MeasureT-loop
 loop-holds : tie.Need-loop-holds Inv-loop μ-loop
 loop-holds c = (omega arith, before-none _ 0, omega arith)
 
+cast-t6 : tie.Need-cast-t6 Inv-loop μ-loop
+cast-t6 c = omega arith
+
 binders-with-requires : tie.Need-binders-with-requires Inv-loop μ-loop
-binders-with-requires c κs = (omega arith, (c .before .loop .inv .1, omega arith))
+binders-with-requires c κs = (c .before .loop .inv .1, omega arith)
 
 add-at : tie.Need-add-at Inv-loop μ-loop
 add-at c = omega arith
@@ -34,4 +37,4 @@ returns c = (c .before .loop .inv .1 ∙ ap (bindersBefore _) (omega arith), ome
 pub binders-before-spec : {M : Type 1} → statement M
 binders-before-spec =
     tie.close
-    (tie.spec Inv-loop μ-loop loop-holds binders-with-requires add-at loop-less loop-again returns)
+    (tie.spec Inv-loop μ-loop loop-holds cast-t6 binders-with-requires add-at loop-less loop-again returns)

@@ -6,9 +6,6 @@ use Rattle.sheet.proofs.NodeSteps.{binding-free, binding-variable, bind
 use Rattle.sheet.proofs.rule.binding_faulty.Statement.{statement}
 use Rattle.sheet.proofs.rule.binding_faulty.Tie as tie
 
-cast-at : tie.Need-cast-at
-cast-at c = search needs
-
 kind-at-requires : tie.Need-kind-at-requires
 kind-at-requires c κs = search needs
 
@@ -18,8 +15,8 @@ returns c = binding-free _ _ (omega arith)
 x-at-requires : tie.Need-x-at-requires
 x-at-requires c κs = search needs
 
-cast-t10 : tie.Need-cast-t10
-cast-t10 c = search needs
+cast-t9 : tie.Need-cast-t9
+cast-t9 c = search needs
 
 binder-node-requires : tie.Need-binder-node-requires
 binder-node-requires c κs = search needs
@@ -35,7 +32,7 @@ returns-3 : tie.Need-returns-3
 returns-3 c = binding-unknown _ _ (omega arith)
 
 returns-4 : tie.Need-returns-4
-returns-4 c = rw (c .before .before .before .before .before .before .before .before .pre) (binding-numbered _ _ (omega arith) (omega arith) (omega arith))
+returns-4 c = rw (c .before .before .before .before .before .before .before .pre) (binding-numbered _ _ (omega arith) (omega arith) (omega arith))
 
 returns-5 : tie.Need-returns-5
 returns-5 c = binding-misnumbered _ _ (omega arith) (omega arith) (omega arith)
@@ -44,11 +41,10 @@ pub binding-faulty-spec : {M : Type 1} → statement M
 binding-faulty-spec =
     tie.close
     (tie.spec
-    cast-at
     kind-at-requires
     returns
     x-at-requires
-    cast-t10
+    cast-t9
     binder-node-requires
     is-below-requires
     returns-2

@@ -1,4 +1,5 @@
 -- `sheet::rule::end_of` meets its contract. Of the loop: what is left of the way gives the same end.
+use borrow.Author.Needs.{needs}
 use mathlib.Core.Path.{_≡_, refl, _∙_}
 use Prim.Native.Nat.{_-_, _+_, _≤_, _<_}
 use native.Mathlib.Omega.{arith}
@@ -22,8 +23,14 @@ loop-holds c = (omega arith, omega arith, refl)
 sub-left : tie.Need-sub-left Inv-loop μ-loop
 sub-left c = omega arith
 
-kind-at-requires : tie.Need-kind-at-requires Inv-loop μ-loop
-kind-at-requires c κs = omega arith
+mul-byte-at : tie.Need-mul-byte-at Inv-loop μ-loop
+mul-byte-at c = omega arith
+
+add-byte-at : tie.Need-add-byte-at Inv-loop μ-loop
+add-byte-at c = omega arith
+
+byte-at-requires : tie.Need-byte-at-requires Inv-loop μ-loop
+byte-at-requires c κs = search needs
 
 add-result : tie.Need-add-result Inv-loop μ-loop
 add-result c = omega arith
@@ -31,14 +38,20 @@ add-result c = omega arith
 returns : tie.Need-returns Inv-loop μ-loop
 returns c = end-leaf _ _ _ (omega arith) (omega arith) ∙ c .before .before .before .loop .inv .2
 
-y-at-requires : tie.Need-y-at-requires Inv-loop μ-loop
-y-at-requires c κs = omega arith
+mul-byte-at-2 : tie.Need-mul-byte-at-2 Inv-loop μ-loop
+mul-byte-at-2 c = omega arith
+
+add-byte-at-2 : tie.Need-add-byte-at-2 Inv-loop μ-loop
+add-byte-at-2 c = omega arith
+
+byte-at-requires-2 : tie.Need-byte-at-requires-2 Inv-loop μ-loop
+byte-at-requires-2 c κs = search needs
 
 loop-less : tie.Need-loop-less Inv-loop μ-loop
 loop-less c = omega arith
 
 loop-again : tie.Need-loop-again Inv-loop μ-loop
-loop-again c = (omega arith, omega arith, rw (c .y-at .ensures .0) (end-pair _ _ _ (omega arith) (omega arith) (omega arith) ∙ c .before .before .before .before .before .loop .inv .2))
+loop-again c = (omega arith, omega arith, rw (c .byte-at2 .ensures .0) (end-pair _ _ _ (omega arith) (omega arith) (omega arith) ∙ c .before .before .before .before .before .loop .inv .2))
 
 add-result-2 : tie.Need-add-result-2 Inv-loop μ-loop
 add-result-2 c = omega arith
@@ -74,10 +87,14 @@ end-of-spec =
     cast-at
     loop-holds
     sub-left
-    kind-at-requires
+    mul-byte-at
+    add-byte-at
+    byte-at-requires
     add-result
     returns
-    y-at-requires
+    mul-byte-at-2
+    add-byte-at-2
+    byte-at-requires-2
     loop-less
     loop-again
     add-result-2

@@ -31,8 +31,11 @@ binding-faulty-requires c κs = c .before .loop .inv .1
 returns : tie.Need-returns Inv-loop μ-loop
 returns c = (search-here _ _ _ _ (omega arith) (sym (c .before .binding-faulty .ensures) ∙ c .if1 .taken) (c .before .before .before .loop .inv .3), omega arith)
 
+cast-t7-2 : tie.Need-cast-t7-2 Inv-loop μ-loop
+cast-t7-2 c = omega arith
+
 binders-with-requires : tie.Need-binders-with-requires Inv-loop μ-loop
-binders-with-requires c κs = (omega arith, (c .before .before .before .loop .inv .1, omega arith))
+binders-with-requires c κs = (c .before .before .before .loop .inv .1, omega arith)
 
 add-n : tie.Need-add-n Inv-loop μ-loop
 add-n c = omega arith
@@ -57,6 +60,7 @@ lowest-faulty-spec =
     cast-t7
     binding-faulty-requires
     returns
+    cast-t7-2
     binders-with-requires
     add-n
     loop-less
