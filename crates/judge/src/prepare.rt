@@ -10,7 +10,7 @@ use sheet::reader::actions_body;
 use sheet::reader::plan_body;
 use sheet::reader::rule_body;
 use sheet::rule::binder_count;
-use sheet::rule::node;
+use sheet::rule::is_binder;
 use sheet::rule::node_count;
 ghost use mathlib.Core.Path.{_≡_};
 ghost use mathlib.Core.Bool.{_&&_};
@@ -69,17 +69,6 @@ fn put_head(sheet: &[u8], index: &mut [u32; 416])
     index[0] = (17 + plan_body(sheet).len() + actions_body(sheet).len()) as u32;
     index[1] = node_count(rule) as u32;
     index[2] = binder_count(rule) as u32 + 1;
-}
-
-fn is_binder(rule: &[u8], n: Node) -> bool
-    ensures { λ b. ⌜ b ≡ isBinder (now (rule .entry)) (n .0) ⌝ }
-{
-    let fields = node(rule, n);
-    let kind = fields.kind;
-    if 7 <= kind {
-        return kind < 9;
-    }
-    false
 }
 
 // The first binder from a node on, or the number of nodes where none is left.
