@@ -9,7 +9,7 @@ use native.Mathlib.Numerals.{add-one}
 use lib.Dec.{eqb, ltb}
 use borrow.Author.Tests.{lt-ltb, eq-eqb, ltb-true, eqb-true}
 use Rattle.sheet.specs.Bytes.{pick}
-use Rattle.sheet.specs.Rule.{nodeCount, nodeKind, nodeX, nodeY, Shape, shapeOf, leaf, pair, modal, variable, binder, unknown, childIs, second, course, extent}
+use Rattle.sheet.specs.Rule.{nodeCount, nodeKind, nodeX, nodeY, Shape, shapeOf, leaf, pair, modal, variable, binder, unknown, childIs, faultAt, second, course, extent}
 use Rattle.sheet.specs.Rules.{Part}
 use Rattle.sheet.specs.Parts.{Bounded}
 use Rattle.sheet.specs.declared.Extent.{Extent}
@@ -45,7 +45,7 @@ is-child r c place q h = all (eqb c place) (ltb place (nodeCount r)) (eq-eqb c p
 ends-inj : {a b : ℕ} → Ends a ≡ Ends b → a ≡ b
 ends-inj {a} {b} q = cc
 
-picked : (b : Bool) (x : Extent) (n e : ℕ) → pick b x (Faulty n) ≡ Ends e → (b ≡ true) × (x ≡ Ends e)
+picked : (b : Bool) (x : Extent) (n e : ℕ) → pick b x (faultAt n) ≡ Ends e → (b ≡ true) × (x ≡ Ends e)
 picked true x n e q = (refl, q)
 picked false x n e q = let z : _≡_ {A = ℕ} 0 1 = cc in absurd (omega arith)
 
@@ -112,29 +112,29 @@ module _ (entries : ℕ) (r : List ℕ) where
   part-extent zero n e p h d = absurd (omega (arith, part-after p))
   part-extent (suc depth) n e (Part.constant k x y) h d =
       extent-suc depth n leaf (shape-leaf (nodeKind r n) (omega arith)) ∙
-      taken (eqb (nodeX r n) 0 && eqb (nodeY r n) 0) (Ends (n + 1)) (Faulty n) (all (eqb (nodeX r n) 0) (eqb (nodeY r n) 0) (eq-eqb (nodeX r n) 0 x) (eq-eqb (nodeY r n) 0 y)) ∙
+      taken (eqb (nodeX r n) 0 && eqb (nodeY r n) 0) (Ends (n + 1)) (faultAt n) (all (eqb (nodeX r n) 0) (eqb (nodeY r n) 0) (eq-eqb (nodeX r n) 0 x) (eq-eqb (nodeY r n) 0 y)) ∙
       ap Ends (add-one n)
   part-extent (suc depth) n e (Part.variable k y) h d =
       extent-suc depth n variable (shape-variable (nodeKind r n) k) ∙
-      taken (eqb (nodeY r n) 0) (Ends (n + 1)) (Faulty n) (eq-eqb (nodeY r n) 0 y) ∙ ap Ends (add-one n)
+      taken (eqb (nodeY r n) 0) (Ends (n + 1)) (faultAt n) (eq-eqb (nodeY r n) 0 y) ∙ ap Ends (add-one n)
   part-extent (suc depth) n e (Part.pair {m = m} k x p y q) h d =
       let g = ranged (nodeKind r n) 2 k in
       extent-suc depth n pair (shape-pair (nodeKind r n) (g .0) (g .1)) ∙
-      taken (childIs r (nodeX r n) (n + 1)) (second (extent depth entries r) r n (extent depth entries r (n + 1))) (Faulty n)
+      taken (childIs r (nodeX r n) (n + 1)) (second (extent depth entries r) r n (extent depth entries r (n + 1))) (faultAt n)
       (is-child r (nodeX r n) (n + 1) (x ∙ sym (add-one n)) (omega (arith, part-after p, part-after q))) ∙
       ap (second (extent depth entries r) r n) (ap (extent depth entries r) (add-one n) ∙ part-extent depth (suc n) m p (omega (arith, part-after q)) (omega (arith, part-after q))) ∙
-      taken (childIs r (nodeY r n) m) (extent depth entries r m) (Faulty n) (is-child r (nodeY r n) m y (omega (arith, part-after q))) ∙
+      taken (childIs r (nodeY r n) m) (extent depth entries r m) (faultAt n) (is-child r (nodeY r n) m y (omega (arith, part-after q))) ∙
       part-extent depth m e q h (omega (arith, part-after p))
   part-extent (suc depth) n e (Part.modal k x y p) h d =
       let g = ranged (nodeKind r n) 4 k in
       extent-suc depth n modal (shape-modal (nodeKind r n) (g .0) (g .1)) ∙
-      taken (ltb (nodeX r n) entries && childIs r (nodeY r n) (n + 1)) (extent depth entries r (n + 1)) (Faulty n)
+      taken (ltb (nodeX r n) entries && childIs r (nodeY r n) (n + 1)) (extent depth entries r (n + 1)) (faultAt n)
       (all (ltb (nodeX r n) entries) (childIs r (nodeY r n) (n + 1)) (lt-ltb (nodeX r n) entries x) (is-child r (nodeY r n) (n + 1) (y ∙ sym (add-one n)) (omega (arith, part-after p)))) ∙
       ap (extent depth entries r) (add-one n) ∙ part-extent depth (suc n) e p h (omega arith)
   part-extent (suc depth) n e (Part.binder k y p) h d =
       let g = ranged (nodeKind r n) 7 k in
       extent-suc depth n binder (shape-binder (nodeKind r n) (g .0) (g .1)) ∙
-      taken (childIs r (nodeY r n) (n + 1)) (extent depth entries r (n + 1)) (Faulty n) (is-child r (nodeY r n) (n + 1) (y ∙ sym (add-one n)) (omega (arith, part-after p))) ∙
+      taken (childIs r (nodeY r n) (n + 1)) (extent depth entries r (n + 1)) (faultAt n) (is-child r (nodeY r n) (n + 1) (y ∙ sym (add-one n)) (omega (arith, part-after p))) ∙
       ap (extent depth entries r) (add-one n) ∙ part-extent depth (suc n) e p h (omega arith)
 
 -- ---- what is found lies in the rule
@@ -143,7 +143,7 @@ from-later : (n m count : ℕ) (x : Extent) → n ≤ m → Bounded m count x �
 from-later n m count (Ends e) h b = (omega arith, b .1)
 from-later n m count (Faulty k) h b = (omega arith, b .1)
 
-or-fault : (n count : ℕ) (b : Bool) (x : Extent) → n < count → (b ≡ true → Bounded n count x) → Bounded n count (pick b x (Faulty n))
+or-fault : (n count : ℕ) (b : Bool) (x : Extent) → n < count → (b ≡ true → Bounded n count x) → Bounded n count (pick b x (faultAt n))
 or-fault n count true x h f = f refl
 or-fault n count false x h f = (omega arith, h)
 

@@ -7,8 +7,9 @@ use native.Mathlib.Omega.{arith}
 use lib.Dec.{eqb, ltb}
 use borrow.Author.Tests.{ltb-true}
 use Rattle.sheet.specs.Bytes.{pick}
-use Rattle.sheet.specs.Rule.{nodeCount, nodeKind, nodeX, nodeY, Shape, shapeOf, childIs, second, course, extent, firstFault, syntaxFault}
+use Rattle.sheet.specs.Rule.{nodeCount, nodeKind, nodeX, nodeY, Shape, shapeOf, childIs, faultAt, second, course, extent, firstFault, syntaxFault}
 use Rattle.sheet.specs.Parts.{NodeOf, Bounded, Ended}
+use Rattle.sheet.specs.declared.Node.{Node}
 use Rattle.sheet.specs.declared.Extent.{Extent}
 use Rattle.sheet.specs.declared.Extent.the-variants.{Ends, Faulty}
 use Rattle.sheet.proofs.Parts.{shape-leaf, shape-pair, shape-modal, shape-variable, shape-binder, shape-unknown}
@@ -18,11 +19,13 @@ both-true true b e = e
 both-true false b e = absurd (mathlib.Core.Bool.true≢false (sym e))
 
 -- a child that stands at its place is a node of the rule
-pub child-among : (r : List ℕ) (child place : ℕ) → childIs r child place ≡ true → place < nodeCount r
-child-among r child place e = ltb-true place (nodeCount r) (both-true (eqb child place) (ltb place (nodeCount r)) e)
+module _ (r : List ℕ) (n : ℕ) (node : NodeOf r n) where
+  pub child-node : (child place : ℕ) → childIs r child place ≡ true → NodeOf r place
+  child-node child place e =
+      record { small = node .small; among = ltb-true place (nodeCount r) (both-true (eqb child place) (ltb place (nodeCount r)) e) }
 
-pub modal-among : (r : List ℕ) (x entries child place : ℕ) → (ltb x entries && childIs r child place) ≡ true → place < nodeCount r
-modal-among r x entries child place e = child-among r child place (both-true (ltb x entries) (childIs r child place) e)
+  pub modal-node : (entries : ℕ) → (ltb (nodeX r n) entries && childIs r (nodeY r n) (n + 1)) ≡ true → NodeOf r (n + 1)
+  modal-node entries e = child-node (nodeY r n) (n + 1) (both-true (ltb (nodeX r n) entries) (childIs r (nodeY r n) (n + 1)) e)
 
 pub bounded-from : (a b count : ℕ) (x : Extent) → a ≤ b → Bounded b count x → Bounded a count x
 bounded-from a b count (Ends e) h (l, m) = (omega arith, m)
@@ -41,7 +44,7 @@ module _ (entries : ℕ) (r : List ℕ) (n : ℕ) (node : NodeOf r n) where
   here : (depth : ℕ) (s : Shape) (x : Extent) → nodeCount r ≤ depth + n → shapeOf (nodeKind r n) ≡ s → course (extent (depth - 1) entries r) entries r n s ≡ x → extent depth entries r n ≡ x
   here depth s x h e f = opened depth h ∙ (ap (course (extent (depth - 1) entries r) entries r n) e ∙ f)
 
-  faulty-here : Bounded n (nodeCount r) (Faulty n)
+  faulty-here : Bounded n (nodeCount r) (faultAt n)
   faulty-here = (omega arith, node .among)
 
   ends-here : Bounded n (nodeCount r) (Ends (n + 1))
@@ -50,25 +53,25 @@ module _ (entries : ℕ) (r : List ℕ) (n : ℕ) (node : NodeOf r n) where
   pub ended-leaf : nodeKind r n < 2 → (eqb (nodeX r n) 0 && eqb (nodeY r n) 0) ≡ true → Ended entries r n (Ends (n + 1))
   ended-leaf k e = record { is = λ d h. here d _ _ h (shape-leaf (nodeKind r n) k) (rw e); bounded = ends-here }
 
-  pub ended-leaf-fault : nodeKind r n < 2 → (eqb (nodeX r n) 0 && eqb (nodeY r n) 0) ≡ false → Ended entries r n (Faulty n)
+  pub ended-leaf-fault : nodeKind r n < 2 → (eqb (nodeX r n) 0 && eqb (nodeY r n) 0) ≡ false → Ended entries r n (faultAt n)
   ended-leaf-fault k e = record { is = λ d h. here d _ _ h (shape-leaf (nodeKind r n) k) (rw e); bounded = faulty-here }
 
   pub ended-variable : nodeKind r n ≡ 6 → eqb (nodeY r n) 0 ≡ true → Ended entries r n (Ends (n + 1))
   ended-variable k e = record { is = λ d h. here d _ _ h (shape-variable (nodeKind r n) k) (rw e); bounded = ends-here }
 
-  pub ended-variable-fault : nodeKind r n ≡ 6 → eqb (nodeY r n) 0 ≡ false → Ended entries r n (Faulty n)
+  pub ended-variable-fault : nodeKind r n ≡ 6 → eqb (nodeY r n) 0 ≡ false → Ended entries r n (faultAt n)
   ended-variable-fault k e = record { is = λ d h. here d _ _ h (shape-variable (nodeKind r n) k) (rw e); bounded = faulty-here }
 
-  pub ended-unknown : 9 ≤ nodeKind r n → Ended entries r n (Faulty n)
+  pub ended-unknown : 9 ≤ nodeKind r n → Ended entries r n (faultAt n)
   ended-unknown k = record { is = λ d h. here d _ _ h (shape-unknown (nodeKind r n) k) refl; bounded = faulty-here }
 
-  pub ended-modal-fault : 4 ≤ nodeKind r n → nodeKind r n < 6 → (ltb (nodeX r n) entries && childIs r (nodeY r n) (n + 1)) ≡ false → Ended entries r n (Faulty n)
+  pub ended-modal-fault : 4 ≤ nodeKind r n → nodeKind r n < 6 → (ltb (nodeX r n) entries && childIs r (nodeY r n) (n + 1)) ≡ false → Ended entries r n (faultAt n)
   ended-modal-fault k l e = record { is = λ d h. here d _ _ h (shape-modal (nodeKind r n) k l) (rw e); bounded = faulty-here }
 
-  pub ended-binder-fault : 7 ≤ nodeKind r n → nodeKind r n < 9 → childIs r (nodeY r n) (n + 1) ≡ false → Ended entries r n (Faulty n)
+  pub ended-binder-fault : 7 ≤ nodeKind r n → nodeKind r n < 9 → childIs r (nodeY r n) (n + 1) ≡ false → Ended entries r n (faultAt n)
   ended-binder-fault k l e = record { is = λ d h. here d _ _ h (shape-binder (nodeKind r n) k l) (rw e); bounded = faulty-here }
 
-  pub ended-pair-fault : 2 ≤ nodeKind r n → nodeKind r n < 4 → childIs r (nodeX r n) (n + 1) ≡ false → Ended entries r n (Faulty n)
+  pub ended-pair-fault : 2 ≤ nodeKind r n → nodeKind r n < 4 → childIs r (nodeX r n) (n + 1) ≡ false → Ended entries r n (faultAt n)
   ended-pair-fault k l e = record { is = λ d h. here d _ _ h (shape-pair (nodeKind r n) k l) (rw e); bounded = faulty-here }
 
   module _ (x : Extent) (child : Ended entries r (n + 1) x) where
@@ -90,11 +93,11 @@ module _ (entries : ℕ) (r : List ℕ) (n : ℕ) (node : NodeOf r n) where
           here depth _ _ h (shape-pair (nodeKind r n) k l)
           (rw e (ap (second (extent (depth - 1) entries r) r n) (below depth h) ∙ f))
 
-      pub ended-first-fault : (m : ℕ) → x ≡ Faulty m → Ended entries r n (Faulty m)
+      pub ended-first-fault : (m : Node) → x ≡ Faulty m → Ended entries r n (Faulty m)
       ended-first-fault m q =
           record { is = λ d h. paired d _ h (ap (second (extent (d - 1) entries r) r n) q); bounded = rw q at carried }
 
-      pub ended-second-fault : (m : ℕ) → x ≡ Ends m → childIs r (nodeY r n) m ≡ false → Ended entries r n (Faulty n)
+      pub ended-second-fault : (m : ℕ) → x ≡ Ends m → childIs r (nodeY r n) m ≡ false → Ended entries r n (faultAt n)
       ended-second-fault m q f =
           record { is = λ d h. paired d _ h (ap (second (extent (d - 1) entries r) r n) q ∙ rw f); bounded = faulty-here }
 

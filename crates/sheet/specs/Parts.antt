@@ -14,7 +14,7 @@ pub record NodeOf (r : List ℕ) (n : ℕ) : Type 0 where
 -- a part of node n ends after n and within the rule; a fault is a node of the rule
 abbrev pub Bounded : ℕ → ℕ → Extent → Type 0
 Bounded n count (Ends e) = (n < e) × (e ≤ count)
-Bounded n count (Faulty m) = (n ≤ m) × (m < count)
+Bounded n count (Faulty m) = (n ≤ m .0) × (m .0 < count)
 
 -- x is the part of node n, at every depth that is enough
 pub record Ended (entries : ℕ) (r : List ℕ) (n : ℕ) (x : Extent) : Type 0 where

@@ -41,32 +41,36 @@ shapeOf k =
 abbrev pub childIs : List ℕ → ℕ → ℕ → Bool
 childIs r c expected = eqb c expected && ltb expected (nodeCount r)
 
+-- node n is faulty
+abbrev pub faultAt : ℕ → Extent
+faultAt n = Faulty (record { 0 = n })
+
 -- "a second child the first node after the first child's part" (part: the node's subtree): a fault in the first child's part stands; else y must be the
 -- node where that part ended
 abbrev pub second : (ℕ → Extent) → List ℕ → ℕ → Extent → Extent
 second go r n (Faulty m) = Faulty m
-second go r n (Ends e) = pick (childIs r (nodeY r n) e) (go e) (Faulty n)
+second go r n (Ends e) = pick (childIs r (nodeY r n) e) (go e) (faultAt n)
 
 -- The part of node n, where go gives the part of a later node: the node after it, or the first fault met in preorder. "a first or only child is the
 -- next node"; "Unused fields are 0"; the entry of a modality is below the count; "a second child's number being looked at after the first child's
 -- part"; "a missing child the fault of its parent". The x of a variable and of a binder is left to refusal 10.
 abbrev pub course : (ℕ → Extent) → ℕ → List ℕ → ℕ → Shape → Extent
-course go entries r n leaf = pick (eqb (nodeX r n) 0 && eqb (nodeY r n) 0) (Ends (n + 1)) (Faulty n)
-course go entries r n pair = pick (childIs r (nodeX r n) (n + 1)) (second go r n (go (n + 1))) (Faulty n)
-course go entries r n modal = pick (ltb (nodeX r n) entries && childIs r (nodeY r n) (n + 1)) (go (n + 1)) (Faulty n)
-course go entries r n variable = pick (eqb (nodeY r n) 0) (Ends (n + 1)) (Faulty n)
-course go entries r n binder = pick (childIs r (nodeY r n) (n + 1)) (go (n + 1)) (Faulty n)
-course go entries r n unknown = Faulty n
+course go entries r n leaf = pick (eqb (nodeX r n) 0 && eqb (nodeY r n) 0) (Ends (n + 1)) (faultAt n)
+course go entries r n pair = pick (childIs r (nodeX r n) (n + 1)) (second go r n (go (n + 1))) (faultAt n)
+course go entries r n modal = pick (ltb (nodeX r n) entries && childIs r (nodeY r n) (n + 1)) (go (n + 1)) (faultAt n)
+course go entries r n variable = pick (eqb (nodeY r n) 0) (Ends (n + 1)) (faultAt n)
+course go entries r n binder = pick (childIs r (nodeY r n) (n + 1)) (go (n + 1)) (faultAt n)
+course go entries r n unknown = faultAt n
 
 -- the part of node n; depth is at least the number of nodes from n on, so that it never runs out
 unfoldable pub extent : ℕ → ℕ → List ℕ → ℕ → Extent
-extent zero entries r n = Faulty n
+extent zero entries r n = faultAt n
 extent (suc depth) entries r n = course (extent depth entries r) entries r n (shapeOf (nodeKind r n))
 
 -- the first fault met in preorder, or N where there is none: a fault in the root's part; else the node where that part ends, which before N is
 -- "a node left over being faulty itself" ("nothing follows the root's part")
 abbrev pub firstFault : Extent → ℕ
-firstFault (Faulty m) = m
+firstFault (Faulty m) = m .0
 firstFault (Ends e) = e
 
 abbrev pub syntaxFault : ℕ → List ℕ → ℕ

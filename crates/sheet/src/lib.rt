@@ -109,10 +109,10 @@ pub enum Check {
     Failed(Refusal),
 }
 
-// The part of a node, in preorder: the node after it, or the first faulty node met in it.
-pub enum Extent {
+// The part of a node, in preorder: the place after it, which may be no node and so is a plain number, or the first faulty node met in it.
+pub(crate) enum Extent {
     Ends(usize),
-    Faulty(usize),
+    Faulty(Node),
 }
 
 // Where a body lies in its sheet.

@@ -96,28 +96,28 @@ fn modal_right(r: &[u8], entries: usize, n: Node) -> bool
 }
 
 // The part of node n: each kind takes its own course.
-fn node_part(r: &[u8], entries: usize, n: usize) -> Extent
-    requires { ⌜ NodeOf (now r) n ⌝ }
-    ensures { λ x. ⌜ Ended entries (now (r .entry)) n x ⌝ }
+fn node_part(r: &[u8], entries: usize, n: Node) -> Extent
+    requires { ⌜ NodeOf (now r) (n .0) ⌝ }
+    ensures { λ x. ⌜ Ended entries (now (r .entry)) (n .0) x ⌝ }
 {
-    let node = Node(n as u8);
-    let k = kind_at(r, node);
+    let k = kind_at(r, n);
+    let next = n.0 as usize + 1;
     match k {
         0..=1 => {
-            if leaf_right(r, node) {
-                Extent::Ends(n + 1)
+            if leaf_right(r, n) {
+                Extent::Ends(next)
             } else {
                 Extent::Faulty(n)
             }
         }
         2..=3 => {
-            if x_is_child(r, node, n + 1) {
-                let first = node_part(r, entries, n + 1);
+            if x_is_child(r, n, next) {
+                let first = node_part(r, entries, Node(n.0 + 1));
                 match first {
                     Extent::Faulty(m) => Extent::Faulty(m),
                     Extent::Ends(e) => {
-                        if y_is_child(r, node, e) {
-                            node_part(r, entries, e)
+                        if y_is_child(r, n, e) {
+                            node_part(r, entries, Node(e as u8))
                         } else {
                             Extent::Faulty(n)
                         }
@@ -128,22 +128,22 @@ fn node_part(r: &[u8], entries: usize, n: usize) -> Extent
             }
         }
         4..=5 => {
-            if modal_right(r, entries, node) {
-                node_part(r, entries, n + 1)
+            if modal_right(r, entries, n) {
+                node_part(r, entries, Node(n.0 + 1))
             } else {
                 Extent::Faulty(n)
             }
         }
         6 => {
-            if variable_right(r, node) {
-                Extent::Ends(n + 1)
+            if variable_right(r, n) {
+                Extent::Ends(next)
             } else {
                 Extent::Faulty(n)
             }
         }
         7..=8 => {
-            if y_is_child(r, node, n + 1) {
-                node_part(r, entries, n + 1)
+            if y_is_child(r, n, next) {
+                node_part(r, entries, Node(n.0 + 1))
             } else {
                 Extent::Faulty(n)
             }
@@ -157,9 +157,9 @@ fn syntax_fault(r: &[u8], entries: usize) -> usize
     requires { ⌜ NodeOf (now r) 0 ⌝ }
     ensures { λ n. ⌜ (n ≡ syntaxFault entries (now (r .entry))) × (n ≤ 64) ⌝ }
 {
-    let whole = node_part(r, entries, 0);
+    let whole = node_part(r, entries, Node(0));
     match whole {
-        Extent::Faulty(m) => m,
+        Extent::Faulty(m) => m.0 as usize,
         Extent::Ends(e) => e,
     }
 }

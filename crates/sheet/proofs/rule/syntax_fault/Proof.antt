@@ -13,15 +13,18 @@ node-part-requires c κs = search needs
 enum-known-whole : tie.Need-enum-known-whole
 enum-known-whole c = search needs
 
+cast-result : tie.Need-cast-result
+cast-result c = search needs
+
 enum-known-whole-2 : tie.Need-enum-known-whole-2
 enum-known-whole-2 c = search needs
 
 returns : tie.Need-returns
-returns c = (ap firstFault (sym (c .before .whole .given .1)) ∙ root-fault _ _ _ (c .before .before .before .node-part .ensures), omega (arith, ap firstFault (c .before .whole .given .1), root-bound _ _ _ (c .before .before .before .node-part .ensures)))
+returns c = (ap firstFault (sym (c .before .before .whole .given .1)) ∙ root-fault _ _ _ (c .before .before .before .before .node-part .ensures), omega (arith, ap firstFault (c .before .before .whole .given .1), root-bound _ _ _ (c .before .before .before .before .node-part .ensures)))
 
 returns-2 : tie.Need-returns-2
 returns-2 c = (ap firstFault (sym (c .before .whole2 .given .1)) ∙ root-fault _ _ _ (c .before .before .before .node-part .ensures), omega (arith, ap firstFault (c .before .whole2 .given .1), root-bound _ _ _ (c .before .before .before .node-part .ensures)))
 
 pub syntax-fault-spec : {M : Type 1} → statement M
 syntax-fault-spec =
-    tie.close (tie.spec node-part-requires enum-known-whole enum-known-whole-2 returns returns-2)
+    tie.close (tie.spec node-part-requires enum-known-whole cast-result enum-known-whole-2 returns returns-2)
