@@ -28,7 +28,7 @@ pub record OneSolution (s : List ℕ) (R : Cell → Row Cell) : Type 0 where
   -- at."
   pub need-is : (c : Cell) → CellOf (planBody s) (ruleBody s) c → need R enough c ≡ c ∷ looked (R c .connective) (value R enough) (need R enough) (R c .entries)
 
--- for every accepted sheet without loop: of the rows as written, and as any table changes them
+-- what `one-solution` of proofs/Solutions.antt shows of every accepted sheet without loop: of the rows as written, and as any table changes them
 pub record RowsHaveOneSolution (s : List ℕ) : Type 0 where
   pub written : OneSolution s (writtenRows s)
   pub changed : (t : List ℕ) → OneSolution s (changedRows s t)
