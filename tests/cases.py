@@ -1,5 +1,6 @@
 #!/usr/bin/env python3
-"""The requests of the trial driver and what they must give, computed from document 01, and from Table 1 and Definition 2 of document 000.
+"""The requests of the trial driver and what they must give, computed from document 01 with request (a) of document 02, and from Table 1 and Definition 2 of
+document 000.
 
     cases.py store VECTORS DIR     DIR/stdin and DIR/stdout: the vectors of the folder VECTORS, then the cases below
     cases.py large DIR             longer and random cases, for a run that is not stored
@@ -54,6 +55,7 @@ def check_actions(b, a):
             3: x < i and y < i,
             4: x < i and y < i,
             5: x < i and y == 0,
+            6: x <= y and y < a,
         }
         if not right.get(kind, False):
             raise Refused(7, i)
@@ -187,7 +189,7 @@ class Sheet:
         every = frozenset(range(self.actions))
         for kind, x, y in self.entries:
             self.formulas.append((lambda: frozenset(), lambda: every, lambda: frozenset([x]), lambda: self.formulas[x] | self.formulas[y],
-                                  lambda: self.formulas[x] & self.formulas[y], lambda: every - self.formulas[x])[kind]())
+                                  lambda: self.formulas[x] & self.formulas[y], lambda: every - self.formulas[x], lambda: frozenset(range(x, y + 1)))[kind]())
 
     def cells(self):
         return self.states * len(self.nodes) * (len(self.binders) + 1)
@@ -576,9 +578,9 @@ def action_tables():
         yield table(*[(1, 0, 0)] * n)
     yield b'\x20' + bytes([0, 0, 0] * 31)
     yield b'\xff' + bytes([0, 0, 0] * 255)
-    for kind in range(6):
+    for kind in range(8):
         for x in (0, 1, 2, 3, 255):
-            for y in (0, 1, 2, 255):
+            for y in (0, 1, 2, 3, 255):
                 yield table((0, 0, 0), (1, 0, 0), (kind, x, y))
     for kind in (2, 3, 4, 5, 6, 7, 128, 255):
         yield table((kind, 0, 0))
@@ -586,8 +588,17 @@ def action_tables():
     yield table(*[(1, 0, 0)] * 31, (5, 30, 0))
     yield table(*[(1, 0, 0)] * 31, (5, 31, 0))
     yield table(*[(1, 0, 0)] * 31, (3, 30, 31))
-    yield table((1, 0, 0), (5, 2, 0), (6, 0, 0))
-    yield table((1, 0, 0), (6, 0, 0), (0, 0, 0), (0, 1, 0))
+    yield table((1, 0, 0), (5, 2, 0), (7, 0, 0))
+    yield table((1, 0, 0), (7, 0, 0), (0, 0, 0), (0, 1, 0))
+    # a stretch: its entry number bounds neither end, and it is an operand like any other; of two faults the lower entry's
+    yield table((6, 0, 2))
+    yield table((6, 0, 2), (6, 1, 1), (3, 0, 1), (4, 1, 0), (5, 1, 0), (5, 4, 0))
+    yield table((6, 0, 2), (6, 2, 1), (6, 0, 3))
+    yield table((6, 0, 2), (6, 0, 3), (6, 2, 1))
+    yield table((5, 1, 0), (6, 0, 2))
+    yield table(*[(6, i % 3, 2) for i in range(32)])
+    yield table(*[(1, 0, 0)] * 31, (6, 2, 1))
+    yield table(*[(1, 0, 0)] * 31, (6, 0, 3))
 
 
 def rules():
@@ -706,10 +717,15 @@ def bodies():
         yield K_PLAN, K_ACTIONS, r
     yield plan(1, 0, []), table((2, 0, 0)), leaf
     yield plan(1, 255, []), table((2, 254, 0), (2, 255, 0)), leaf
+    # stretches at the ends of the action numbers, up to all 255 actions
+    for actions in (0, 1, 2, 128, 254, 255):
+        last = max(actions - 1, 0)
+        for x, y in ((0, 0), (0, last), (last, last), (0, actions), (actions, actions), (last, actions), (actions, last), (1, 0), (last, 0), (0, 255), (255, 255), (255, 0), (255, 254)):
+            yield plan(1, actions, []), table((1, 0, 0), (6, x, y)), leaf
     yield K_PLAN, table(), rule((4, 0, 1), (1, 0, 0))
     # faults in more than one body: the lowest number is given
     sizes = (b'', b'', b'')
-    faults = (plan(3, 3, [(0, 0, 0), (0, 0, 0)]), table((1, 0, 0), (6, 0, 0)), rule((7, 1, 1), (1, 0, 0)))
+    faults = (plan(3, 3, [(0, 0, 0), (0, 0, 0)]), table((1, 0, 0), (7, 0, 0)), rule((7, 1, 1), (1, 0, 0)))
     syntax = (faults[0], faults[1], rule((4, 0, 1), (9, 0, 0)))
     good = (K_PLAN, K_ACTIONS, K_RULE)
     for p in (good[0], sizes[0], faults[0]):
@@ -809,10 +825,45 @@ def refusals():
     yield sheet_of(plan(0, 0, []), TRUE, rule(T))
     yield sheet_of(plan(3, 3, [(0, 1, 1), (0, 1, 1)]), TRUE, rule(T))
     yield sheet_of(K_PLAN, b'', rule(T))
-    yield sheet_of(K_PLAN, table((1, 0, 0), (6, 0, 0)), rule(T))
+    yield sheet_of(K_PLAN, table((1, 0, 0), (7, 0, 0)), rule(T))
+    yield sheet_of(K_PLAN, table((6, 0, 2), (6, 2, 1)), rule(T))
+    yield sheet_of(K_PLAN, table((6, 0, 2), (6, 0, 3)), rule(T))
     yield sheet_of(K_PLAN, TRUE, rule())
     yield sheet_of(K_PLAN, TRUE, rule((4, 0, 1), (4, 1, 2), T))
     yield sheet_of(K_PLAN, TRUE, rule((7, 0, 1), (2, 2, 3), T, (6, 1, 0)))
+
+
+def stretches():
+    """requests 2 to 5 on rules with stretches of actions"""
+    # of all 255 actions: at either end, of one action, of all; "not" of each; a stretch as an operand
+    rim = (0, 1, 2, 19, 20, 21, 38, 39, 40, 63, 64, 127, 128, 253, 254)
+    fan = plan(16, 255, [(0, a, i + 1) for i, a in enumerate(rim)] + [(1, 254, 15), (2, 0, 15)])
+    ends = [(6, 0, 254), (6, 0, 0), (6, 254, 254), (6, 0, 253), (6, 1, 254), (6, 1, 253), (6, 20, 39), (6, 20, 20), (6, 39, 40), (6, 0, 19), (6, 64, 127), (6, 63, 128)]
+    entries = table(*ends, *[(5, i, 0) for i in range(len(ends))], (3, 1, 2), (4, 4, 3), (4, 6, 8), (3, 9, 7), (5, 26, 0), (4, 18, 9), (3, 18, 6), (4, 11, 22))
+    for e in range(entries[0]):
+        for kind in (4, 5):
+            s = sheet_of(fan, entries, rule((kind, e, 1), (9 - kind, 0, 2), (kind - 4, 0, 0)))
+            yield reference_request(s)
+            yield list_request(s, 48, 4, [0, 1, 2, 3, 15])
+    # the stretch, which is entry 31, and the list that it stands for: sixteen actions in 31 entries
+    listed = [(2, 20, 0)]
+    for a in range(21, 36):
+        listed += [(2, a, 0), (3, len(listed) - 1, len(listed))]
+    run = plan(6, 255, [(0, a, 1 + a % 2) for a in (19, 20, 21, 35, 36)] + [(1, 27, 3), (2, 35, 3), (2, 36, 3), (4, 19, 3), (5, 36, 3)])
+    for e in (30, 31):
+        for kind in (7, 8):
+            s = sheet_of(run, table(*listed, (6, 20, 35)), rule((kind, 0, 1), (3, 2, 4), (5, e, 3), (6, 0, 0), (2, 5, 7), (4, e, 6), T, (5, 30, 8), F))
+            yield guard_request(s)
+            yield reference_request(s)
+            yield list_request(s, 108, 255, [0, 1, 2, 3, 4, 5, 6])
+            yield query_request(s, 0, bytes(i % 5 % 3 for i in range(108)))
+    # a loop by the actions of a stretch, and one by the actions outside it
+    for x, y in ((0, 0), (0, 1), (1, 1), (1, 2), (2, 2)):
+        for kind in (7, 8):
+            for modal, e in ((4, 0), (5, 1)):
+                s = sheet_of(plan(2, 3, [(0, 1, 1), (1, 1, 0), (1, 2, 1)]), table((6, x, y), (5, 0, 0)), rule((kind, 0, 1), (modal, e, 2), (6, 0, 0)))
+                yield reference_request(s)
+                yield list_request(s, 12, 1, [0, 1, 2])
 
 
 def judgings():
@@ -870,6 +921,7 @@ def judgings():
             s = sheet_of(fan, entries, rule((kind, e, 1), (9 - kind, 1, 2), (kind - 4, 0, 0)))
             yield reference_request(s)
             yield list_request(s, 18, 4, [0, 1, 4])
+    yield from stretches()
     # the longest sheet, and a long one without loops
     long = sheet_of(LONG_PLAN, LONG_ACTIONS, LONG_RULE)
     yield guard_request(long)
@@ -894,7 +946,8 @@ def random_judging(rng, most=(3, 8, 16)):
     loops = rng.random() < 0.15
     found = {(rng.randrange(states), rng.randrange(6), rng.randrange(states)) for _ in range(rng.randrange(10))}
     p = plan(states, 6, sorted(t for t in found if loops or t[0] < t[2]))
-    a = table((2, rng.randrange(6), 0), (1, 0, 0), (5, 0, 0), (rng.choice((3, 4)), 2, 0))
+    first, last = sorted((rng.randrange(6), rng.randrange(6)))
+    a = table(rng.choice(((2, first, 0), (6, first, last))), (1, 0, 0), (5, 0, 0), (rng.choice((3, 4)), 2, 0))
     s = sheet_of(p, a, random_rule(rng, rng.choice(most)))
     try:
         size = Sheet(s).cells()
@@ -998,7 +1051,8 @@ def large():
     rng = random.Random(1)
     for _ in range(4000):
         p = plan(5, 6, sorted({(rng.randrange(5), rng.randrange(6), rng.randrange(5)) for _ in range(rng.randrange(8))}))
-        a = table((2, rng.randrange(6), 0), (1, 0, 0), (rng.choice((3, 4)), 1, 0), (5, 2, 0))
+        first, last = sorted((rng.randrange(6), rng.randrange(6)))
+        a = table((2, rng.randrange(6), 0), rng.choice(((1, 0, 0), (6, first, last))), (rng.choice((3, 4)), 1, 0), (5, 2, 0))
         r = random_rule(rng, rng.choice((1, 3, 10, 30, 64)))
         p, a, r = (damaged(rng, b) if rng.random() < 0.4 else b for b in (p, a, r))
         s = sheet_of(p, a, r)
@@ -1036,7 +1090,7 @@ def main(args):
 
     if args[:1] == ['store'] and len(args) == 3:
         given = []
-        for name in ('sheet', 'reference', 'query'):
+        for name in ('a-sheet', 'a-query'):
             found = list(answered(Path(args[1], name + '.stdin').read_bytes()))
             assert b''.join(text for _, text in found) == Path(args[1], name + '.stdout').read_bytes(), name
             given += found

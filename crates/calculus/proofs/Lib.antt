@@ -11,6 +11,7 @@ pub mod Examples
 pub mod Entries
 pub mod Bits
 pub mod Masks
+pub mod Ranges
 pub mod Nodes
 pub mod PlanOf
 pub mod Variables

@@ -7,7 +7,7 @@ use mathlib.Core.Logic.{_⊎_, inl, inr}
 use native.Mathlib.Omega.{arith}
 use native.Mathlib.Nat.{pow-suc, eq-or-lt-of-le, le-of-suc-le-suc, add-zero}
 use native.Mathlib.Numerals.{add-one}
-use lib.Dec.{ltb, eqb}
+use lib.Dec.{ltb, leb, eqb}
 use lib.Pow.{pow-mono}
 use borrow.Author.Tests.{ltb-true, ltb-false, ne-eqb}
 use Rattle.sheet.specs.Bytes.{pick}
@@ -88,12 +88,17 @@ module _ (A : ℕ) (a : List ℕ) (e action : ℕ) (f : Fields) (is : f ≡ fiel
   unfolding meets
   meets-action q = ap (λ (g : Fields). eqb action (g .x)) is ∙ in-meaning 2 q
 
-  pub meets-unknown : 5 < f .kind → false ≡ meets A (actionFormula a e) action
+  pub meets-range : f .kind ≡ 6 → (leb (f .x) action && leb action (f .y)) ≡ meets A (actionFormula a e) action
   unfolding meets
-  meets-unknown h =
-      let s : entrySort (f .kind) ≡ unknownEntry =
-      simp (ne-eqb (f .kind) 0 (λ q. omega arith), ne-eqb (f .kind) 1 (λ q. omega arith), ne-eqb (f .kind) 2 (λ q. omega arith), ne-eqb (f .kind) 3 (λ q. omega arith), ne-eqb (f .kind) 4 (λ q. omega arith), ne-eqb (f .kind) 5 (λ q. omega arith)) in
-      sym (ap (λ (t : EntrySort). meets A (entryFormula (actionFormula a) a e t) action) s) ∙ in-meaning (f .kind) refl
+  meets-range q = ap (λ (g : Fields). leb (g .x) action && leb action (g .y)) is ∙ in-meaning 6 q
+
+  module _ (not-0 : f .kind ≡ 0 → ⊥) (not-1 : f .kind ≡ 1 → ⊥) (not-2 : f .kind ≡ 2 → ⊥) (not-3 : f .kind ≡ 3 → ⊥) (not-4 : f .kind ≡ 4 → ⊥) (not-5 : f .kind ≡ 5 → ⊥) (not-6 : f .kind ≡ 6 → ⊥) where
+    pub meets-unknown : false ≡ meets A (actionFormula a e) action
+    unfolding meets
+    meets-unknown =
+        let s : entrySort (f .kind) ≡ unknownEntry =
+        simp (ne-eqb _ 0 not-0, ne-eqb _ 1 not-1, ne-eqb _ 2 not-2, ne-eqb _ 3 not-3, ne-eqb _ 4 not-4, ne-eqb _ 5 not-5, ne-eqb _ 6 not-6) in
+        sym (ap (λ (t : EntrySort). meets A (entryFormula (actionFormula a) a e t) action) s) ∙ in-meaning (f .kind) refl
 
   module _ (m : ℕ) (mask : m ≡ maskUpTo e A a action) where
     x-bit : (p : Bool) → p ≡ bit m (f .x) → p ≡ meets A (operand (actionFormula a) (entryX a e) (ltb (entryX a e) e)) action

@@ -1,4 +1,4 @@
--- The plan, the action formulas and the rule that the bodies of a sheet hold, in the terms of Table 1.
+-- The plan, the action formulas and the rule that the bodies of a sheet hold, in the terms of Table 1 and of document 02 (a).
 use Prim.Native.Nat.{ℕ, zero, suc}
 use mathlib.Core.Bool.{Bool, true, false}
 use mathlib.Core.List.{List, [], _∷_}
@@ -7,7 +7,7 @@ use Rattle.sheet.specs.Bytes.{pick}
 use Rattle.sheet.specs.Plan.{stateCount, actionCount, transitionCount, origin, label, target}
 use Rattle.sheet.specs.Actions.{entryKind, entryX, entryY}
 use Rattle.sheet.specs.Rule.{nodeKind, nodeX, nodeY}
-use Rattle.calculus.specs.Formulas.{ActionFormula, nothing, anything, only, either, both, except, Formula, never, always, disj, conj, some, every, var, least, greatest}
+use Rattle.calculus.specs.Formulas.{ActionFormula, nothing, anything, only, either, both, except, between, Formula, never, always, disj, conj, some, every, var, least, greatest}
 use Rattle.calculus.specs.Plans.{Transition, Plan}
 
 -- ---- document 01, "Kind 1, plan": S, A, "then T transitions of three bytes: from, action, to"
@@ -25,7 +25,7 @@ transitionsFrom p (suc count) i = transitionOf p i ∷ transitionsFrom p count (
 abbrev pub planOf : List ℕ → Plan
 planOf p = record { states = stateCount p; actions = actionCount p; transitions = transitionsFrom p (transitionCount p) 0 }
 
--- ---- document 01, "Kind 2, action formulas"
+-- ---- document 01, "Kind 2, action formulas", with kind 6 of document 02 (a)
 
 -- "Operands of 3, 4, 5 are entry numbers below their own": entry x as an operand, if it is below; any other number, which no accepted sheet has,
 -- stands for F
@@ -33,16 +33,17 @@ abbrev pub operand : (ℕ → ActionFormula) → ℕ → Bool → ActionFormula
 operand go x true = go x
 operand go x false = nothing
 
--- "Kinds: 0 false, 1 true, 2 action x (x below A), 3 x or y, 4 x and y, 5 not x."
+-- "Kinds: 0 false, 1 true, 2 action x (x below A), 3 x or y, 4 x and y, 5 not x."; document 02 (a): "kind 6: every action from x to y"
 pub data EntrySort : Type 0 where
-  falseEntry trueEntry actionEntry orEntry andEntry notEntry unknownEntry : EntrySort
+  falseEntry trueEntry actionEntry orEntry andEntry notEntry rangeEntry unknownEntry : EntrySort
 
 -- the kind of an entry by its number
 abbrev pub entrySort : ℕ → EntrySort
 entrySort k =
     pick (eqb k 0) falseEntry
     (pick (eqb k 1) trueEntry
-    (pick (eqb k 2) actionEntry (pick (eqb k 3) orEntry (pick (eqb k 4) andEntry (pick (eqb k 5) notEntry unknownEntry)))))
+    (pick (eqb k 2) actionEntry
+    (pick (eqb k 3) orEntry (pick (eqb k 4) andEntry (pick (eqb k 5) notEntry (pick (eqb k 6) rangeEntry unknownEntry))))))
 
 -- the formula of entry e by its sort, where go gives the formulas of the entries before it
 abbrev pub entryFormula : (ℕ → ActionFormula) → List ℕ → ℕ → EntrySort → ActionFormula
@@ -52,6 +53,7 @@ entryFormula go a e actionEntry = only (entryX a e)
 entryFormula go a e orEntry = either (operand go (entryX a e) (ltb (entryX a e) e)) (operand go (entryY a e) (ltb (entryY a e) e))
 entryFormula go a e andEntry = both (operand go (entryX a e) (ltb (entryX a e) e)) (operand go (entryY a e) (ltb (entryY a e) e))
 entryFormula go a e notEntry = except (operand go (entryX a e) (ltb (entryX a e) e))
+entryFormula go a e rangeEntry = between (entryX a e) (entryY a e)
 -- no accepted sheet has another kind
 entryFormula go a e unknownEntry = nothing
 

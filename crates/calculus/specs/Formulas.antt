@@ -1,4 +1,4 @@
--- The syntax of Table 1. Actions and variables are numbers.
+-- The syntax of Table 1, and the range of actions of document 02 (a). Actions and variables are numbers.
 use Prim.Native.Nat.{ℕ}
 
 -- Action formulas α.
@@ -15,6 +15,8 @@ pub data ActionFormula : Type 0 where
   both : ActionFormula → ActionFormula → ActionFormula
   -- not α
   except : ActionFormula → ActionFormula
+  -- not in Table 1. Document 02 (a), "Stretches of actions" (ranges): "every action from x to y, both ends included"
+  between : ℕ → ℕ → ActionFormula
 
 -- State formulas φ.
 pub data Formula : Type 0 where

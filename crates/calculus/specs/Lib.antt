@@ -1,6 +1,7 @@
 pub mod Formulas
 pub mod Plans
 pub mod Meaning
+pub mod Ranges
 pub mod Guarded
 pub mod Decode
 pub mod Verdict

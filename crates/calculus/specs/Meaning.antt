@@ -1,11 +1,12 @@
--- The semantics of Table 1. A set of states or actions is a function to Bool, and a context ρ gives a set of states to each variable.
+-- The semantics of Table 1, and of the range of actions of document 02 (a). A set of states or actions is a function to Bool, and a
+-- context ρ gives a set of states to each variable.
 use Prim.Native.Nat.{ℕ, _<_}
 use mathlib.Core.Path.{_≡_}
 use mathlib.Core.Bool.{Bool, true, false, not, _&&_, _||_, cond}
 use mathlib.Core.Logic.{_⊎_}
 use mathlib.Core.List.{List·Memᴰ}
-use lib.Dec.{ltb, eqb}
-use Rattle.calculus.specs.Formulas.{ActionFormula, nothing, anything, only, either, both, except, Formula, never, always, disj, conj, some, every, var, least, greatest}
+use lib.Dec.{ltb, leb, eqb}
+use Rattle.calculus.specs.Formulas.{ActionFormula, nothing, anything, only, either, both, except, between, Formula, never, always, disj, conj, some, every, var, least, greatest}
 use Rattle.calculus.specs.Plans.{Transition, Plan}
 
 -- The meaning of an action formula among the actions 0 to A - 1.
@@ -22,6 +23,8 @@ meets A (either α β) a = meets A α a || meets A β a
 meets A (both α β) a = meets A α a && meets A β a
 -- not α: A without α; '"Not" is taken among the A actions.'
 meets A (except α) a = ltb a A && not (meets A α a)
+-- document 02 (a): "every action from x to y, both ends included"; in an accepted sheet "y is below A", so these are among the A actions
+meets A (between x y) a = leb x a && leb a y
 
 -- ρ[U/X]: as ρ, but U for X.
 abbrev pub bind : (ℕ → ℕ → Bool) → ℕ → (ℕ → Bool) → ℕ → ℕ → Bool

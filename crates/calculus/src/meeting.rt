@@ -5,7 +5,7 @@ use sheet::actions::entry_count;
 ghost use mathlib.Core.Path.{_≡_};
 ghost use mathlib.Core.Bool.{not, _&&_, _||_};
 ghost use Prim.Native.Nat.{_+_, _<_, _^_, min};
-ghost use lib.Dec.{ltb};
+ghost use lib.Dec.{ltb, leb};
 ghost use Rattle.calculus.specs.Meeting.{bit, maskUpTo, meetingMask};
 ghost use Rattle.calculus.specs.Carried.{Meets};
 
@@ -54,6 +54,16 @@ fn except(action: Action, count: u8, met: bool) -> bool
     false
 }
 
+// Every action from the first to the last, both included.
+fn between(action: Action, first: Action, last: Action) -> bool
+    ensures { λ r. ⌜ r ≡ (leb (first .0) (action .0) && leb (action .0) (last .0)) ⌝ }
+{
+    if first.0 <= action.0 {
+        return action.0 <= last.0;
+    }
+    false
+}
+
 // Whether the action meets entry e among the count actions; mask has the bits of the entries before it.
 fn entry_meets(actions: &[u8], e: u8, count: u8, action: Action, mask: u32) -> bool
     requires { ⌜ mask ≡ maskUpTo e count (now actions) (action .0) ⌝ }
@@ -70,6 +80,7 @@ fn entry_meets(actions: &[u8], e: u8, count: u8, action: Action, mask: u32) -> b
         3 => either(meets(mask, x), meets(mask, y)),
         4 => both(meets(mask, x), meets(mask, y)),
         5 => except(action, count, meets(mask, x)),
+        6 => between(action, Action(x), Action(y)),
         _ => false,
     }
 }

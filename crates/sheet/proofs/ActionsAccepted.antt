@@ -8,7 +8,7 @@ use native.Mathlib.Omega.{arith}
 use native.Mathlib.Decide.{decLt}
 use lib.ListN.{length}
 use lib.Dec.{eqb, ltb, leb}
-use borrow.Author.Tests.{lt-ltb, eq-eqb, ltb-true, leb-true, eqb-true, not-false}
+use borrow.Author.Tests.{lt-ltb, le-leb, eq-eqb, ltb-true, leb-true, eqb-true, not-false}
 use Rattle.sheet.specs.Actions.{entryCount, entryKind, entryX, entryY, actionsSized, entryRight, entryFaulty, lowestEntry}
 use Rattle.sheet.specs.Refusals.{require}
 use Rattle.sheet.specs.Reading.{actionsCheck}
@@ -17,7 +17,7 @@ use Rattle.sheet.specs.declared.Refusal.the-variants.{ActionsSize, Entry
 use Rattle.sheet.specs.declared.Check.{Check}
 use Rattle.sheet.specs.declared.Check.the-variants.{Passed}
 use Rattle.sheet.proofs.Sizes.{actions-exact}
-use Rattle.sheet.proofs.Entries.{right-constant, right-action, right-pair, right-not, right-unknown}
+use Rattle.sheet.proofs.Entries.{right-constant, right-action, right-pair, right-not, right-range, right-unknown}
 use Rattle.sheet.proofs.Parts.{ranged, one-of}
 use Rattle.sheet.proofs.Checks.{both, both₃, all, passed-then, then-passed, passed-require, require-passed, none-found}
 
@@ -46,7 +46,12 @@ module _ (actions : ℕ) (a : List ℕ) where
               | yes l ↦
                   let b = both (ltb x e) (eqb y 0) (sym (right-not actions e k x y (omega arith)) ∙ q) in
                   EntryKept.operand (omega arith) (ltb-true x e (b .0)) (eqb-true y 0 (b .1))
-              | no l ↦ absurd (false≢true (sym (right-unknown actions e k x y (omega arith)) ∙ q))
+              | no l ↦ elim (decLt k 7) [
+                | yes m ↦
+                    let b = both (leb x y) (ltb y actions) (sym (right-range actions e k x y (omega arith)) ∙ q) in
+                    EntryKept.range (omega arith) (leb-true x y (b .0)) (ltb-true y actions (b .1))
+                | no m ↦ absurd (false≢true (sym (right-unknown actions e k x y (omega arith)) ∙ q))
+              ]
             ]
           ]
         ]
@@ -68,6 +73,7 @@ module _ (actions : ℕ) (a : List ℕ) where
       let g = ranged (entryKind a e) 3 h in
       right-pair actions e (entryKind a e) (entryX a e) (entryY a e) (g .0) (g .1) ∙ all _ _ (lt-ltb _ _ p) (lt-ltb _ _ q)
   entry-right e (EntryKept.operand h p q) = right-not actions e (entryKind a e) (entryX a e) (entryY a e) h ∙ all _ _ (lt-ltb _ _ p) (eq-eqb _ _ q)
+  entry-right e (EntryKept.range h p q) = right-range actions e (entryKind a e) (entryX a e) (entryY a e) h ∙ all _ _ (le-leb _ _ p) (lt-ltb _ _ q)
 
   right-of : (e : ℕ) → entryFaulty actions a e ≡ false → entryRight actions e (entryKind a e) (entryX a e) (entryY a e) ≡ true
   unfolding entryFaulty

@@ -3,7 +3,7 @@ use Prim.Native.Nat.{ℕ, _<_, _≤_}
 use mathlib.Core.Path.{_≡_, refl}
 use mathlib.Core.Bool.{Bool, true, false, _&&_}
 use native.Mathlib.Omega.{arith}
-use lib.Dec.{ltb, eqb}
+use lib.Dec.{ltb, leb, eqb}
 use borrow.Author.Tests.{lt-ltb, le-ltb, eq-eqb, ne-eqb}
 use Rattle.sheet.specs.Actions.{entryRight}
 
@@ -24,6 +24,11 @@ module _ (actions e k x y : ℕ) where
   unfolding entryRight
   right-not h = simp (le-ltb k 2 (omega arith), ne-eqb k 2 (λ q. omega arith), le-ltb k 5 (omega arith), eq-eqb k 5 h)
 
-  pub right-unknown : 5 < k → entryRight actions e k x y ≡ false
+  pub right-range : k ≡ 6 → entryRight actions e k x y ≡ (leb x y && ltb y actions)
   unfolding entryRight
-  right-unknown h = simp (le-ltb k 2 (omega arith), ne-eqb k 2 (λ q. omega arith), le-ltb k 5 (omega arith), ne-eqb k 5 (λ q. omega arith))
+  right-range h = simp (le-ltb k 2 (omega arith), ne-eqb k 2 (λ q. omega arith), le-ltb k 5 (omega arith), ne-eqb k 5 (λ q. omega arith), eq-eqb k 6 h)
+
+  pub right-unknown : 6 < k → entryRight actions e k x y ≡ false
+  unfolding entryRight
+  right-unknown h =
+      simp (le-ltb k 2 (omega arith), ne-eqb k 2 (λ q. omega arith), le-ltb k 5 (omega arith), ne-eqb k 5 (λ q. omega arith), ne-eqb k 6 (λ q. omega arith))

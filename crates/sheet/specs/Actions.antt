@@ -1,4 +1,6 @@
--- Document 01, "Kind 2, action formulas". What they mean ("Not" is taken among the A actions) is in the crate calculus. The definitions speak of the body's bytes; actions is A, the plan's number of actions.
+-- Document 01, "Kind 2, action formulas", with kind 6 of document 02 (a), "Stretches of actions": a stretch is a range of action numbers.
+-- What the formulas mean ("Not" is taken among the A actions) is in the crate calculus. The definitions speak of the body's bytes; actions is A,
+-- the plan's number of actions.
 use Prim.Native.Nat.{ℕ, _+_, _*_}
 use mathlib.Core.Bool.{Bool, false, not, _&&_}
 use mathlib.Core.List.{List}
@@ -24,12 +26,14 @@ unfoldable pub actionsSized : List ℕ → Bool
 actionsSized a = leb 1 (length a) && (leb (entryCount a) 32 && eqb (length a) (1 + 3 * entryCount a))
 
 -- Entry e of kind k with fields x, y: "0 false, 1 true, 2 action x (x below A), 3 x or y, 4 x and y, 5 not x. Operands of
--- 3, 4, 5 are entry numbers below their own."; "Unused fields are 0."
+-- 3, 4, 5 are entry numbers below their own."; "Unused fields are 0." Document 02 (a): "kind 6: every action from x to y, both ends
+-- included. It is well formed when x is at most y and y is below A; otherwise the entry falls under 7."
 unfoldable pub entryRight : ℕ → ℕ → ℕ → ℕ → ℕ → Bool
 entryRight actions e k x y =
     pick (ltb k 2) (eqb x 0 && eqb y 0)
     (pick (eqb k 2) (ltb x actions && eqb y 0)
-    (pick (ltb k 5) (ltb x e && ltb y e) (pick (eqb k 5) (ltb x e && eqb y 0) false)))
+    (pick (ltb k 5) (ltb x e && ltb y e)
+    (pick (eqb k 5) (ltb x e && eqb y 0) (pick (eqb k 6) (leb x y && ltb y actions) false))))
 
 -- refusal 7: "its kind, action, operand or unused field"
 unfoldable pub entryFaulty : ℕ → List ℕ → ℕ → Bool

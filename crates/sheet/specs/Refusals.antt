@@ -21,7 +21,7 @@ numberOf PlanSize = 4
 numberOf (TransitionFault t) = 5
 -- "6: action table empty, count over 32, or length not 1 + 3 × count."
 numberOf ActionsSize = 6
--- "7: an entry: its kind, action, operand or unused field."
+-- "7: an entry: its kind, action, operand or unused field."; document 02 (a): a stretch that isn't well formed "falls under 7"
 numberOf (EntryFault e) = 7
 -- "8: rule empty, N outside 1 to 64, or length not 1 + 3 × N."
 numberOf RuleSize = 8

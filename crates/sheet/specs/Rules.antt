@@ -1,5 +1,5 @@
--- The rules of a sheet, each stated once, with no order of checking: what document 01's "The sheet" asks. That a sheet is accepted exactly when
--- it keeps them is `accepted-iff` of proofs/Accepted.antt.
+-- The rules of a sheet, each stated once, with no order of checking: what document 01's "The sheet" asks, with kind 6 of document 02 (a).
+-- That a sheet is accepted exactly when it keeps them is `accepted-iff` of proofs/Accepted.antt.
 use Prim.Native.Nat.{ℕ, suc, _+_, _*_, _<_, _≤_}
 use mathlib.Core.Path.{_≡_}
 use mathlib.Core.Bool.{true}
@@ -35,12 +35,15 @@ pub record PlanKept (p : List ℕ) : Type 0 where
 
 -- ---- action formulas
 
--- "Kinds: 0 false, 1 true, 2 action x (x below A), 3 x or y, 4 x and y, 5 not x. Operands of 3, 4, 5 are entry numbers below their own."; "Unused fields are 0."
+-- "Kinds: 0 false, 1 true, 2 action x (x below A), 3 x or y, 4 x and y, 5 not x. Operands of 3, 4, 5 are entry numbers below their
+-- own."; "Unused fields are 0." Document 02 (a): "kind 6: every action from x to y, both ends included. It is well formed when x is at
+-- most y and y is below A"
 pub data EntryKept (actions : ℕ) (a : List ℕ) (e : ℕ) : Type 0 where
   constant : entryKind a e ≤ 1 → entryX a e ≡ 0 → entryY a e ≡ 0 → EntryKept actions a e
   action : entryKind a e ≡ 2 → entryX a e < actions → entryY a e ≡ 0 → EntryKept actions a e
   operands : (entryKind a e ≡ 3) ⊎ (entryKind a e ≡ 4) → entryX a e < e → entryY a e < e → EntryKept actions a e
   operand : entryKind a e ≡ 5 → entryX a e < e → entryY a e ≡ 0 → EntryKept actions a e
+  range : entryKind a e ≡ 6 → entryX a e ≤ entryY a e → entryY a e < actions → EntryKept actions a e
 
 pub record ActionsKept (actions : ℕ) (a : List ℕ) : Type 0 where
   -- "Count (1 byte, 0 to 32), then entries of kind, x, y."

@@ -8,7 +8,7 @@ use crate::bytes::narrow_at;
 ghost use mathlib.Core.Path.{_≡_};
 ghost use mathlib.Core.Bool.{_&&_};
 ghost use Prim.Native.Nat.{_<_};
-ghost use lib.Dec.{eqb, ltb};
+ghost use lib.Dec.{eqb, ltb, leb};
 ghost use Rattle.sheet.specs.Actions.{entryCount, actionsSized, entryRight, entryFaulty, lowestEntry};
 ghost use Rattle.sheet.specs.Fields.{fieldsAt};
 ghost use Rattle.sheet.specs.Reading.{actionsCheck};
@@ -54,6 +54,16 @@ fn both_below(x: usize, y: usize, bound: usize) -> bool
     false
 }
 
+// The fields of a range: the first at most the last, and the last an action of the plan.
+fn range_right(first: usize, last: usize, actions: usize) -> bool
+    ensures { λ r. ⌜ r ≡ (leb first last && ltb last actions) ⌝ }
+{
+    if first <= last {
+        return last < actions;
+    }
+    false
+}
+
 // Entry e of kind k: each kind has its own use of x and y.
 fn entry_right(actions: usize, e: usize, k: usize, x: usize, y: usize) -> bool
     ensures { λ r. ⌜ r ≡ entryRight actions e k x y ⌝ }
@@ -63,6 +73,7 @@ fn entry_right(actions: usize, e: usize, k: usize, x: usize, y: usize) -> bool
         2 => below_and_zero(x, actions, y),
         3..=4 => both_below(x, y, e),
         5 => below_and_zero(x, e, y),
+        6 => range_right(x, y, actions),
         _ => false,
     }
 }

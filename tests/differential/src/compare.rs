@@ -417,7 +417,7 @@ fn smaller_parts(b: &[Vec<u8>; 3]) -> Vec<[Vec<u8>; 3]> {
         q.entries.remove(i);
         let down = |v: &mut u8| if *v as usize >= i && *v > 0 { *v -= 1 };
         for e in q.entries.iter_mut() {
-            if e[0] >= 3 {
+            if (3..6).contains(&e[0]) {
                 down(&mut e[1]);
             }
             if e[0] == 3 || e[0] == 4 {

@@ -132,6 +132,19 @@ pub fn any_size(r: &mut Rng) -> Size {
     Size { states, actions, transitions, entries, nodes, binders, loops: r.chance(25), guarded: r.chance(40) }
 }
 
+/// A stretch of some of the `a` actions: any, of one action, from the first or to the last.
+fn stretch(r: &mut Rng, a: usize) -> [u8; 3] {
+    let (i, j) = (r.below(a), r.below(a));
+    let (x, y) = match r.below(8) {
+        0 => (i, i),
+        1 => (0, j),
+        2 => (i, a - 1),
+        3 => (0, a - 1),
+        _ => (i.min(j), i.max(j)),
+    };
+    [6, x as u8, y as u8]
+}
+
 pub fn valid(r: &mut Rng, z: Size) -> Parts {
     let (s, a) = (z.states, z.actions);
     // the plan
@@ -167,8 +180,8 @@ pub fn valid(r: &mut Rng, z: Size) -> Parts {
     // the action formulas
     let mut entries: Vec<[u8; 3]> = Vec::new();
     for i in 0..z.entries {
-        let mut kind = r.pick(&[0u8, 1, 1, 2, 2, 2, 2, 3, 3, 4, 5, 5]);
-        if i == 0 && kind > 2 || kind == 2 && a == 0 {
+        let mut kind = r.pick(&[0u8, 1, 1, 2, 2, 2, 2, 3, 3, 4, 5, 5, 6, 6]);
+        if i == 0 && (3..6).contains(&kind) || a == 0 && (kind == 2 || kind == 6) {
             kind = 1;
         }
         let mut below = |n: usize| r.below(n) as u8;
@@ -176,6 +189,7 @@ pub fn valid(r: &mut Rng, z: Size) -> Parts {
             2 => [2, below(a), 0],
             3 | 4 => [kind, below(i), below(i)],
             5 => [5, below(i), 0],
+            6 => stretch(r, a),
             _ => [kind, 0, 0],
         });
     }
@@ -300,7 +314,14 @@ fn part_end(nodes: &[[u8; 3]], mut i: usize) -> usize {
 
 /// Damage inside the parts; the bodies still say what they hold.
 fn damage_parts(r: &mut Rng, p: &mut Parts) {
-    match r.below(26) {
+    match r.below(28) {
+        26 | 27 if !p.entries.is_empty() => {
+            // a stretch about its limits: x = y, x one above y, y = A - 1, y = A, an end of another
+            let (i, a, other) = (r.below(p.entries.len()), p.actions, r.byte());
+            let y = r.pick(&[a, a, a.wrapping_sub(1), a.wrapping_add(1), other]);
+            let x = r.pick(&[y, y.wrapping_add(1), y.wrapping_add(1), y.wrapping_sub(1), 0, other]);
+            p.entries[i] = [6, x, y];
+        }
         22 | 23 => {
             // a second child's number and something in the first child's part, or before it, or after it
             let at: Vec<usize> = (0..p.nodes.len()).filter(|&i| p.nodes[i][0] == 2 || p.nodes[i][0] == 3).collect();
@@ -360,7 +381,7 @@ fn damage_parts(r: &mut Rng, p: &mut Parts) {
             let (i, f) = (r.below(p.entries.len()), r.below(3));
             p.entries[i][f] = match r.below(4) {
                 0 => i as u8,
-                1 if f == 0 => r.range(0, 7) as u8,
+                1 if f == 0 => r.range(0, 8) as u8,
                 2 => p.actions,
                 _ => odd(r, p.entries[i][f]),
             };

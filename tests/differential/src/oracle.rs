@@ -1,4 +1,4 @@
-//! An independent implementation of document 01, written from the document.
+//! An independent implementation of document 01, with request (a) of document 02, written from the documents.
 //!
 //! Plain Rust: the sheet is read in one pass, the plan gets a successor index, each action formula becomes one mask,
 //! and the lent table is the memo of the query.
@@ -108,6 +108,7 @@ pub fn read_parts<'a>(plan: &'a [u8], acts: &'a [u8], rule: &'a [u8]) -> Result<
             2 => x < actions && y == 0,
             3 | 4 => x < i && y < i,
             5 => x < i && y == 0,
+            6 => x <= y && y < actions,
             _ => false,
         };
         if !good {
@@ -211,12 +212,19 @@ pub fn guarded(p: &Parts) -> bool {
     g(p.nodes, 0, 0)
 }
 
+/// The actions below n.
+fn below(n: usize) -> Mask {
+    let mut m: Mask = [0; 4];
+    m[..n / 64].fill(u64::MAX);
+    if n < 256 {
+        m[n / 64] = (1 << (n % 64)) - 1;
+    }
+    m
+}
+
 /// The actions that meet each entry, "not" taken among the A actions.
 pub fn masks(p: &Parts) -> Vec<Mask> {
-    let mut all: Mask = [0; 4];
-    for a in 0..p.actions {
-        all[a / 64] |= 1 << (a % 64);
-    }
+    let all = below(p.actions);
     let mut out: Vec<Mask> = Vec::with_capacity(32);
     for c in p.entries.chunks_exact(3) {
         let (x, y) = (c[1] as usize, c[2] as usize);
@@ -227,7 +235,11 @@ pub fn masks(p: &Parts) -> Vec<Mask> {
             2 => m[x / 64] = 1 << (x % 64),
             3 => (0..4).for_each(|w| m[w] = out[x][w] | out[y][w]),
             4 => (0..4).for_each(|w| m[w] = out[x][w] & out[y][w]),
-            _ => (0..4).for_each(|w| m[w] = all[w] & !out[x][w]),
+            5 => (0..4).for_each(|w| m[w] = all[w] & !out[x][w]),
+            _ => {
+                let (upto, before) = (below(y + 1), below(x));
+                (0..4).for_each(|w| m[w] = upto[w] & !before[w]);
+            }
         }
         out.push(m);
     }

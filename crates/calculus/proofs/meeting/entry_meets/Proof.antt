@@ -1,7 +1,8 @@
 -- `calculus::meeting::entry_meets` meets its contract: the number that was matched says which kind of entry it is.
 use borrow.Author.Needs.{needs}
 use native.Mathlib.Omega.{arith}
-use Rattle.calculus.proofs.Masks.{meets-false, meets-true, meets-action, meets-or, meets-and, meets-not, meets-unknown}
+use mathlib.Core.Path.{_∙_}
+use Rattle.calculus.proofs.Masks.{meets-false, meets-true, meets-action, meets-or, meets-and, meets-not, meets-range, meets-unknown}
 use Rattle.calculus.proofs.meeting.entry_meets.Statement.{statement}
 use Rattle.calculus.proofs.meeting.entry_meets.Tie as tie
 
@@ -32,6 +33,9 @@ meets-requires-5 c κs = search needs
 except-requires : tie.Need-except-requires
 except-requires c κs = search needs
 
+between-requires : tie.Need-between-requires
+between-requires c κs = search needs
+
 returns : tie.Need-returns
 returns c = meets-false _ _ _ _ _ (c .before .entry .ensures) (omega arith)
 
@@ -51,7 +55,12 @@ returns-6 : tie.Need-returns-6
 returns-6 c = let b = c .before .before .before in meets-not _ _ _ _ _ (b .entry .ensures) _ (b .before .before .pre) _ _ (c .before .meets5 .ensures) (omega arith) (c .except .ensures)
 
 returns-7 : tie.Need-returns-7
-returns-7 c = meets-unknown _ _ _ _ _ (c .before .entry .ensures) (omega arith)
+returns-7 c = c .between .ensures ∙ meets-range _ _ _ _ _ (c .before .before .entry .ensures) (omega arith)
+
+returns-8 : tie.Need-returns-8
+returns-8 c =
+    let r = c .match .rest in
+    meets-unknown _ _ _ _ _ (c .before .entry .ensures) (r .0 .0 .0 .0 .0 .0 .1) (r .0 .0 .0 .0 .0 .1) (r .0 .0 .0 .0 .1) (r .0 .0 .0 .1) (r .0 .0 .1) (r .0 .1) (r .1)
 
 pub entry-meets-spec : {M : Type 1} → statement M
 entry-meets-spec =
@@ -66,10 +75,12 @@ entry-meets-spec =
     both-requires
     meets-requires-5
     except-requires
+    between-requires
     returns
     returns-2
     returns-3
     returns-4
     returns-5
     returns-6
-    returns-7)
+    returns-7
+    returns-8)

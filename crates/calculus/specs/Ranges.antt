@@ -1,0 +1,14 @@
+-- The range of document 02 (a) in the terms of Table 1: it means what the "or" of its actions means.
+use Prim.Native.Nat.{ℕ, zero, suc, _+_}
+use mathlib.Core.Path.{_≡_}
+use Rattle.calculus.specs.Formulas.{ActionFormula, only, either, between}
+use Rattle.calculus.specs.Meaning.{meets}
+
+-- the action x and as many more after it as the second number says, joined by "or"
+unfoldable pub enumerated : ℕ → ℕ → ActionFormula
+enumerated x zero = only x
+enumerated x (suc more) = either (only x) (enumerated (suc x) more)
+
+-- an action meets the range from x to x + more exactly when it meets the "or" of these actions
+abbrev pub RangeEnumerated : Type 0
+RangeEnumerated = (A x more a : ℕ) → meets A (between x (x + more)) a ≡ meets A (enumerated x more) a
