@@ -292,7 +292,7 @@ fn page(rows: &[Row], missing: &[&str], start: &[f64], start_time: &[f64], each:
           write the same lines; the command checks that they do. The driver is the compiled Rattle program. The Rust program is\n\
           `differential serve`, the implementation that the differential tests compare with: linear reading, a successor index,\n\
           one mask for each action formula, the lent table as its memo; each call takes a sheet and reads it, as in the driver.\n\n";
-    o += "Sheets grow in every part: n states, about 16 n transitions of 4 actions, 8 action entries, n / 2 nodes, 1 to 6 binders\n\
+    o += "Sheets grow in every part: n states, about 16 n transitions of 4 actions, 8 action entries of any kind, n / 2 nodes, 1 to 6 binders\n\
           (reference: at most 2 binders, some transitions back, and n up to 64). Each figure is for one request, the mean over 4\n\
           sheets about the upper quarter, by the work they make, of 60 made at random. A query's figure is that of the request less that of the same request with no query (clearing and writing out\n\
           the table); the others are less that of the same request with a sheet of no bytes. Instructions are those of\n\

@@ -316,7 +316,7 @@ fn part_end(nodes: &[[u8; 3]], mut i: usize) -> usize {
 fn damage_parts(r: &mut Rng, p: &mut Parts) {
     match r.below(28) {
         26 | 27 if !p.entries.is_empty() => {
-            // a stretch about its limits: x = y, x one above y, y = A - 1, y = A, an end of another
+            // a stretch about its limits: x = y, x one above or below y, x = 0, y = A - 1, y = A, y = A + 1, or any byte
             let (i, a, other) = (r.below(p.entries.len()), p.actions, r.byte());
             let y = r.pick(&[a, a, a.wrapping_sub(1), a.wrapping_add(1), other]);
             let x = r.pick(&[y, y.wrapping_add(1), y.wrapping_add(1), y.wrapping_sub(1), 0, other]);
