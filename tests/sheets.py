@@ -3,7 +3,7 @@
 
     sheets.py write DIR            writes DIR/NAME.sheet and DIR/NAME.txt for each
     sheets.py check DIR PROGRAM    runs PROGRAM on each sheet of DIR and compares with the last line of its page; then on sheets at the limits and on
-                                   refused ones, and compares with what documents 01 and 02 say
+                                   refused ones, and compares with what documents 01 and 02 (a) say
     sheets.py deepest FILE         the sheet on which a query nests deepest
 """
 import subprocess
@@ -46,7 +46,7 @@ def sheet_of(example):
 
 
 def line_of(sheet):
-    """what the program prints, as documents 01 and 02 have it"""
+    """what the program prints, as documents 01 and 02 (a) have it"""
     try:
         tab = bytearray(57344)
         cases.clear(sheet, tab)

@@ -4,7 +4,7 @@ use mathlib.Core.Path.{_≡_}
 use Rattle.calculus.specs.Formulas.{ActionFormula, only, either, between}
 use Rattle.calculus.specs.Meaning.{meets}
 
--- the action x and as many more after it as the second number says, joined by "or"
+-- the actions x, x + 1 and so on up to x + more, joined by "or"
 unfoldable pub enumerated : ℕ → ℕ → ActionFormula
 enumerated x zero = only x
 enumerated x (suc more) = either (only x) (enumerated (suc x) more)
