@@ -1,6 +1,6 @@
 #!/usr/bin/env python3
-"""The requests of the trial driver and what they must give, computed from document 01 with request (a) of document 02, and from Table 1 and Definition 2 of
-document 000.
+"""The requests of the trial driver and what they must give, computed from document 01 with requests (a) and (b) of document 02, and from Table 1 and
+Definition 2 of document 000.
 
     cases.py store VECTORS DIR     DIR/stdin and DIR/stdout: the vectors of the folder VECTORS, then the cases below
     cases.py large DIR             longer and random cases, for a run that is not stored
@@ -8,6 +8,7 @@ document 000.
 
 A last word NUMBERS, as 12456, to `store` and `large` keeps these requests alone.
 """
+import functools
 import random
 import sys
 from pathlib import Path
@@ -170,7 +171,20 @@ def write_sheet(p, a, r, size):
     return s
 
 
-# ---- document 01: rows, need, solution; clearing and query
+# ---- document 01: rows, need, solution; clearing and query, with the loops of document 02 (b)
+
+
+@functools.lru_cache(maxsize=1)         # a list asks for the same plan again and again
+def ways(p):
+    """of each state of a plan the states that a way of one or more transitions leads to"""
+    leads = [set() for _ in range(p[0])]
+    for source, _, to in triples(p, 4):
+        leads[source].add(to)
+    for middle in range(p[0]):
+        for s in range(p[0]):
+            if middle in leads[s]:
+                leads[s] |= leads[middle]
+    return leads
 
 
 class Sheet:
@@ -179,7 +193,7 @@ class Sheet:
     def __init__(self, s):
         o1, l1, o2, l2, o3, l3 = read_sheet(s)
         p, a, r = s[o1:o1 + l1], s[o2:o2 + l2], s[o3:o3 + l3]
-        self.states, self.actions = p[0], p[1]
+        self.plan, self.states, self.actions = p, p[0], p[1]
         self.entries, self.nodes = triples(a, 1), triples(r, 1)
         self.after = [[] for _ in range(self.states)]   # of each state (action, to), in plan order
         for source, action, to in triples(p, 4):
@@ -198,14 +212,10 @@ class Sheet:
         mark, node, state = cell
         return (state * len(self.nodes) + node) * (len(self.binders) + 1) + mark
 
-    def has_loop(self):
-        """Ends are taken away until none is left; a loop is what stays."""
-        left = set(range(self.states))
-        while True:
-            ends = {s for s in left if not any(to in left for _, to in self.after[s])}
-            if not ends:
-                return bool(left)
-            left -= ends
+    def loop_reachable(self, state):
+        """Can a loop be reached: does the state lie on one, or does a way lead from it to a state that does?"""
+        leads = ways(self.plan)
+        return any(s in leads[s] for s in {state} | leads[state])
 
     def row(self, cell):
         """whether it is an "or", and its entries"""
@@ -269,7 +279,7 @@ def query(s, state, tab):
     sheet = Sheet(s)
     if state >= sheet.states:
         raise Refused(11)
-    if sheet.has_loop():
+    if sheet.loop_reachable(state):
         raise Refused(12)
     if len(tab) < sheet.cells():
         raise Refused(20)
@@ -866,6 +876,160 @@ def stretches():
                 yield list_request(s, 12, 1, [0, 1, 2])
 
 
+def loop_plans():
+    """plans, most of them with loops: how many states, the transitions as from and to, and the states from which a loop can be reached, found by hand"""
+    # of one and two states: a loop here, elsewhere, ahead, behind
+    yield 1, [], []
+    yield 1, [(0, 0)], [0]
+    yield 2, [(1, 1)], [1]
+    yield 2, [(0, 0)], [0]
+    yield 2, [(0, 1), (1, 1)], [0, 1]
+    yield 2, [(0, 0), (1, 0)], [0, 1]
+    yield 2, [(0, 0), (0, 1)], [0]
+    yield 2, [(1, 0), (1, 1)], [1]
+    yield 2, [(0, 1), (1, 0)], [0, 1]
+    yield 2, [(0, 0), (1, 1)], [0, 1]
+    # a loop of two states: on its own, with a way to it, with a way from it, with both
+    yield 4, [(0, 3), (1, 2), (2, 1)], [1, 2]
+    yield 4, [(0, 1), (1, 2), (2, 1)], [0, 1, 2]
+    yield 4, [(1, 2), (1, 3), (2, 0), (2, 1)], [1, 2]
+    yield 4, [(0, 1), (1, 2), (2, 1), (2, 3)], [0, 1, 2]
+    yield 4, [(3, 2), (2, 1), (1, 2), (1, 0)], [1, 2, 3]
+    # of all states; of all but one; with the way back missing
+    yield 5, [(0, 1), (1, 2), (2, 3), (3, 4), (4, 0)], [0, 1, 2, 3, 4]
+    yield 5, [(0, 4), (4, 3), (3, 2), (2, 0), (2, 1)], [0, 2, 3, 4]
+    yield 5, [(0, 1), (1, 2), (2, 3), (3, 4), (0, 4)], []
+    yield 5, [(4, 3), (3, 2), (2, 1), (1, 0), (4, 0)], []
+    # several ways to the same state are no loop; with one at their end, at their start, on one side
+    two_ways, two_back = [(0, 1), (0, 2), (1, 3), (2, 3)], [(3, 1), (3, 2), (1, 0), (2, 0)]
+    yield 4, two_ways, []
+    yield 4, two_back, []
+    yield 4, two_ways + [(3, 3)], [0, 1, 2, 3]
+    yield 4, two_ways + [(0, 0)], [0]
+    yield 4, two_ways + [(1, 1)], [0, 1]
+    yield 4, two_back + [(2, 2)], [2, 3]
+    yield 4, two_ways + [(3, 0)], [0, 1, 2, 3]
+    yield 4, two_ways + [(2, 0)], [0, 2]
+    yield 4, [(0, 1), (0, 2), (0, 3), (1, 2), (1, 3), (2, 3)], []
+    # of a state's transitions only the first, the last or one in the middle leads to a loop
+    yield 6, [(0, 1), (0, 2), (0, 3), (1, 4), (4, 1)], [0, 1, 4]
+    yield 6, [(0, 1), (0, 2), (0, 3), (3, 4), (4, 3)], [0, 3, 4]
+    yield 6, [(0, 1), (0, 2), (0, 3), (1, 5), (2, 4), (4, 4)], [0, 2, 4]
+    yield 6, [(5, 0), (5, 1), (5, 3), (1, 0), (3, 4), (4, 4)], [3, 4, 5]
+    # two loops: apart, one behind the other, a state between them, a state in both
+    yield 5, [(0, 0), (1, 2), (3, 3)], [0, 3]
+    yield 5, [(0, 1), (1, 0), (3, 4), (4, 3)], [0, 1, 3, 4]
+    yield 4, [(0, 0), (0, 1), (1, 1), (1, 2), (2, 3)], [0, 1]
+    yield 4, [(0, 0), (0, 1), (1, 2), (2, 2), (2, 3)], [0, 1, 2]
+    yield 5, [(1, 2), (2, 1), (2, 3), (3, 2), (0, 4)], [1, 2, 3]
+    # many steps ahead, and as many behind, with the states rising and falling
+    up, down = [(s, s + 1) for s in range(7)], [(s + 1, s) for s in range(7)]
+    yield 8, up + [(7, 7)], range(8)
+    yield 8, up + [(0, 0)], [0]
+    yield 8, up + [(3, 3)], range(4)
+    yield 8, up + [(5, 3)], range(6)
+    yield 8, down + [(0, 0)], range(8)
+    yield 8, down + [(7, 7)], [7]
+    yield 8, down + [(4, 4)], [4, 5, 6, 7]
+    yield 8, down + [(2, 4)], range(2, 8)
+    yield 8, [(2, 6), (6, 1), (1, 4), (4, 2), (4, 0), (3, 5), (5, 7)], [1, 2, 4, 6]
+    yield 8, [(0, 7), (7, 1), (1, 6), (6, 2), (2, 5), (5, 3), (3, 4), (4, 6)], range(8)
+
+
+def acting(pairs, action):
+    """transitions from pairs, the action of each by its place"""
+    return sorted((source, action(i), to) for i, (source, to) in enumerate(pairs))
+
+
+def loops_to_try():
+    """plans with loops, each with all that a list of every state must give"""
+    for states, pairs, refused in loop_plans():
+        s = sheet_of(plan(states, 1, acting(pairs, lambda i: 0)), table(), rule(T))
+        given = ['query 12 0 false 0|' if q in refused else 'query 0 0 true 1|' for q in range(states)] + ['query 11 0 false 0|']
+        left = ''.join('00' if q in refused else '02' for q in range(states))
+        yield list_request(s, states + 1, 9, range(states + 1)), 'clear 0 0|%stable %s09|' % (''.join(given), left)
+    # K with loops that its states do not lead to gives what K gives
+    for more in ([(3, 0, 3)], [(3, 0, 4), (4, 2, 3)], [(3, 1, 0), (3, 2, 3), (4, 0, 3)]):
+        s = sheet_of(plan(5, 3, [(0, 1, 1), (1, 2, 2)] + more), K_ACTIONS, K_RULE)
+        last = 'query 0 0 false 9|' if len(more) == 1 else 'query 12 0 false 0|'
+        yield list_request(s, 180, 4, [0, 1, 3, 2, 4, 5]), 'clear 0 0|query 0 0 true 17|query 0 0 true 0|query 12 0 false 0|query 0 0 false 9|%squery 11 0 false 0|' % last
+
+
+# of three actions the third meets neither
+FIRST_TWO = table((2, 0, 0), (2, 1, 0))
+
+
+def guarded_rule(kind):
+    """some way of actions 0 leads to an action 1"""
+    return rule((kind, 0, 1), (2, 2, 4), (4, 0, 3), (6, 0, 0), (4, 1, 5), T)
+
+
+def unguarded_rule(kind):
+    """the outer variable stands below its binder with no modal node between"""
+    return rule((kind, 0, 1), (15 - kind, 1, 2), (kind - 5, 3, 4), (6, 0, 0), (kind - 3, 0, 5), (6, 1, 0))
+
+
+def modal_rule(kind):
+    """two modal nodes, without fixed points"""
+    return rule((kind - 3, 0, 1), (12 - kind, 1, 2), (kind - 7, 0, 0))
+
+
+def with_loops():
+    """requests 3 to 5 on plans with loops"""
+    for i, (states, pairs, _) in enumerate(loop_plans()):
+        p = plan(states, 3, acting(pairs, lambda k: 2 - k % 3))
+        for r in ((guarded_rule(7), guarded_rule(8)), (unguarded_rule(7 + i % 2),), (modal_rule(7 + i % 2),))[i % 3]:
+            s = sheet_of(p, FIRST_TWO, r)
+            yield reference_request(s)
+            yield list_request(s, Sheet(s).cells(), i, [*reversed(range(states)), states, 0])
+    # K's plan with one transition more, at each of its states
+    for more in ((0, 0, 0), (1, 0, 0), (1, 0, 1), (2, 0, 2)):
+        for r in (K_RULE, set_at(K_RULE, 1, 8)):
+            yield list_request(sheet_of(plan(3, 3, sorted([(0, 1, 1), (1, 2, 2), more])), K_ACTIONS, r), 108, 0, [2, 1, 0])
+    # each plan of two states
+    for chosen in range(16):
+        pairs = [(k // 2, k % 2) for k in range(4) if chosen >> k & 1]
+        yield list_request(sheet_of(plan(2, 3, acting(pairs, lambda k: k % 2)), FIRST_TWO, modal_rule(7 + chosen % 2)), 7, 5, [1, 2, 0, 1])
+    # states refused by 11 and by 12 among others, in one table; 12 comes before 20 and 21, 11 before 12, and a refused query changes nothing
+    mixed = plan(6, 3, [(0, 0, 1), (0, 0, 3), (1, 0, 0), (2, 0, 0), (2, 1, 3), (3, 1, 4), (5, 0, 3), (5, 2, 5)])
+    for kind in (7, 8):
+        s = sheet_of(mixed, FIRST_TWO, guarded_rule(kind))
+        for order in ([3, 0, 6, 4, 255, 2, 5, 3], [0, 3, 6, 4], [6, 5, 4, 3, 2, 1, 0], [4, 128, 1, 3, 3, 1]):
+            for size in (71, 75):
+                yield list_request(s, size, 3, order)
+        # tables from elsewhere: the cells of the states ahead of a loop, or of the others, all of one value; then cells of any value
+        for state in (0, 3, 5):
+            for looping, others in ((1, 0), (2, 0), (0, 1), (0, 2), (3, 0), (0, 3)):
+                yield query_request(s, state, b''.join(bytes([others if q in (3, 4) else looping]) * 12 for q in range(6)))
+            yield query_request(s, state, bytes(k % 7 % 3 for k in range(72)))
+            yield query_request(s, state, bytes(k % 5 % 3 if k // 12 in (3, 4) else 1 + k % 2 for k in range(72)))
+    # on tables too short, with bytes over 2, and with one past the cells
+    for state in (0, 2, 3, 5, 6):
+        for tab in (b'', b'\3' * 71, b'\3' * 72, bytes(72) + b'\3'):
+            yield query_request(s, state, tab)
+    # loops of actions that no formula looks at, rules that need not look at any; last, several transitions from one state to another, which are no loop
+    entries = table((2, 0, 0), (2, 1, 0), (0, 0, 0))
+    for transitions in ([(0, 2, 0)], [(0, 2, 1), (1, 2, 0), (2, 0, 2)], [(0, 0, 1), (0, 2, 2), (2, 2, 2)], [(0, 0, 1), (1, 2, 2), (2, 0, 1)], [(1, 0, 2), (2, 2, 0), (2, 2, 1)],
+                        [(0, 0, 1), (0, 1, 1), (0, 2, 1), (1, 1, 2), (1, 2, 2)]):
+        for r in (rule(F), rule((2, 1, 2), T, F), rule((7, 0, 1), (6, 0, 0)), rule((8, 0, 1), (6, 0, 0)), rule((5, 0, 1), F), rule((4, 2, 1), T), rule((3, 1, 2), F, (4, 0, 3), T)):
+            s = sheet_of(plan(3, 3, transitions), entries, r)
+            yield list_request(s, Sheet(s).cells(), 255, [0, 1, 2, 3])
+    # with a fault of a lower number, and with no room for the table
+    for p, a, r in ((plan(1, 1, [(0, 0, 0)] * 2), TRUE, rule(T)), (SELF, b'', rule(T)), (SELF, table((7, 0, 0)), rule(T)), (SELF, TRUE, rule()), (SELF, TRUE, rule((4, 1, 1), T)),
+                    (SELF, TRUE, rule((6, 0, 0)))):
+        yield list_request(sheet_of(p, a, r), 0, 3, [0, 1])
+    # 128 states: a loop at the end of the longest way, just before it, at its start, about the middle; one of 64 states that no other leads to
+    up, down = [(s, s + 1) for s in range(127)], [(s + 1, s) for s in range(127)]
+    half = [(s, s + 1) for s in range(127) if s != 63] + [(127, 64)]
+    for pairs in (up + [(127, 127)], up + [(126, 126)], up + [(0, 0)], up + [(64, 63)], down + [(0, 0)], down + [(1, 1)], down + [(127, 127)], half):
+        s = sheet_of(plan(128, 1, acting(pairs, lambda k: 0)), TRUE, rule((4, 0, 1), T))
+        yield list_request(s, 256, 1, [127, 126, 0, 1, 2, 62, 63, 64, 65, 66, 125, 128])
+    # transitions past number 255, and a loop that only the first or only the last of sixteen leads to
+    for at in (127, 112):
+        s = sheet_of(plan(128, 16, many(300) + [(at, 0, at)]), table(), rule(T))
+        yield list_request(s, 128, 4, [0, 15, 17, 18, 19, 111, 112, 113, 126, 127])
+
+
 def judgings():
     """further requests 2 to 5"""
     for s in refusals():
@@ -904,15 +1068,7 @@ def judgings():
                 yield query_request(s, 2, set_at(bytes(size) + b'\1', at, b))
             yield query_request(s, 1, bytes([b]) * (size - 1))
             yield query_request(s, 3, bytes([b]) * (size - 1))
-    # a loop: through several states, away from the state asked for; with 11, 20 and 21 as well
-    for transitions in ([(0, 0, 1), (1, 0, 0)], [(0, 0, 1), (2, 0, 2)], [(0, 0, 1), (1, 0, 2), (2, 0, 0)], [(1, 0, 3), (2, 0, 1), (3, 0, 2)], [(2, 0, 0), (2, 0, 1), (2, 0, 3)],
-                        [(3, 0, 2), (3, 0, 3)], [(0, 0, 2), (0, 0, 3), (1, 0, 2), (2, 0, 3)]):
-        for kind in (7, 8):
-            s = sheet_of(plan(4, 1, transitions), TRUE, rule((kind, 0, 1), (3, 2, 4), (5, 0, 3), (6, 0, 0), (4, 0, 5), T))
-            yield reference_request(s)
-            yield list_request(s, 48, 1, [0, 4, 3])
-            yield list_request(s, 47, 1, [0, 4, 3])
-            yield query_request(s, 0, b'\3' * 48)
+    yield from with_loops()
     # action formulas: each kind, none and all of the actions
     entries = table((2, 1, 0), (2, 2, 0), (3, 0, 1), (4, 0, 1), (5, 2, 0), (0, 0, 0), (1, 0, 0), (5, 6, 0), (5, 5, 0), (4, 4, 8), *[(3 + i % 2, i - 1, i - 1) for i in range(10, 32)])
     fan = plan(6, 4, [(0, 0, 1), (0, 1, 2), (0, 1, 3), (0, 2, 4), (0, 3, 5), (1, 1, 2), (2, 2, 4), (4, 3, 5)])
@@ -922,7 +1078,7 @@ def judgings():
             yield reference_request(s)
             yield list_request(s, 18, 4, [0, 1, 4])
     yield from stretches()
-    # the longest sheet, and a long one without loops
+    # the longest sheet, where a loop can be reached from the state asked for, and a long one without loops
     long = sheet_of(LONG_PLAN, LONG_ACTIONS, LONG_RULE)
     yield guard_request(long)
     yield reference_request(long)
@@ -940,12 +1096,23 @@ def judgings():
         yield from random_judging(rng)
 
 
+def random_transitions(rng, states, count):
+    """About half without loops; most others with one through up to three states, so that it can be reached from some states and not from others."""
+    shape = rng.choice(('no loop', 'no loop', 'one', 'one', 'any'))
+    place = rng.sample(range(states), states)
+    found = {(rng.randrange(states), rng.randrange(6), rng.randrange(states)) for _ in range(count)}
+    if shape != 'any':
+        found = {t for t in found if place[t[0]] < place[t[2]]}
+    if shape == 'one':
+        loop = rng.sample(range(states), rng.randrange(min(states, 3)) + 1)
+        found |= {(source, rng.randrange(6), to) for source, to in zip(loop, loop[1:] + loop[:1])}
+    return sorted(found)
+
+
 def random_judging(rng, most=(3, 8, 16)):
-    """an accepted sheet, mostly without loops, its word, its guard check, a list, and a query on a table from elsewhere"""
+    """an accepted sheet, its word, its guard check, a list, and a query on a table from elsewhere"""
     states = rng.randrange(1, 6)
-    loops = rng.random() < 0.15
-    found = {(rng.randrange(states), rng.randrange(6), rng.randrange(states)) for _ in range(rng.randrange(10))}
-    p = plan(states, 6, sorted(t for t in found if loops or t[0] < t[2]))
+    p = plan(states, 6, random_transitions(rng, states, rng.randrange(10)))
     first, last = sorted((rng.randrange(6), rng.randrange(6)))
     a = table(rng.choice(((2, first, 0), (6, first, last))), (1, 0, 0), (5, 0, 0), (rng.choice((3, 4)), 2, 0))
     s = sheet_of(p, a, random_rule(rng, rng.choice(most)))
@@ -955,7 +1122,7 @@ def random_judging(rng, most=(3, 8, 16)):
         return
     yield guard_request(s)
     yield reference_request(s)
-    yield list_request(s, size + rng.randrange(2), rng.randrange(256), [rng.randrange(states + 1) for _ in range(rng.randrange(1, 5))])
+    yield list_request(s, size + rng.randrange(2), rng.randrange(256), [rng.randrange(states + 1) for _ in range(rng.randrange(1, 7))])
     often = rng.choice((0, 0.5, 0.9))
     yield query_request(s, rng.randrange(states), bytes(0 if rng.random() < often else rng.randrange(3) for _ in range(size)))
 
@@ -982,7 +1149,7 @@ def stored():
             yield write_request(p, a, r, (0, 3, len(s))[i // 3 % 3], fill)
     for w in writings():
         yield write_request(*w)
-    for request, start in to_try():
+    for request, start in (*to_try(), *loops_to_try()):
         assert answers(request).decode().replace('\n', '|').startswith(start), start
         yield request
     yield from judgings()
@@ -1064,6 +1231,24 @@ def large():
         yield full
     for _ in range(1500):
         yield from random_judging(rng, (3, 8, 16, 40, 64))
+    # each plan of three states and one action
+    for chosen in range(512):
+        p = plan(3, 1, [(k // 3, 0, k % 3) for k in range(9) if chosen >> k & 1])
+        for kind in (7, 8):
+            s = sheet_of(p, TRUE, rule((kind, 0, 1), (3, 2, 4), (5, 0, 3), (6, 0, 0), (5, 0, 5), (4, 0, 6), T))
+            yield reference_request(s)
+            yield list_request(s, 42, kind, rng.sample(range(4), 4))
+            yield query_request(s, rng.randrange(3), bytes(rng.choice((0, 0, 1, 2)) for _ in range(42)))
+    # more states and transitions; then about the longest plan, with three states that lead to no loop
+    for _ in range(200):
+        states = rng.choice((10, 40, 63, 64, 65, 127, 128))
+        p = plan(states, 6, random_transitions(rng, states, rng.randrange(1, rng.choice((2, 4, 8)) * states)))
+        a, r = table((2, 0, 0), (5, 0, 0), (6, 1, 3)), random_rule(rng, rng.choice((1, 5, 12)))
+        if accepted(p, a, r):
+            s = sheet_of(p, a, r)
+            yield list_request(s, Sheet(s).cells(), 3, [rng.randrange(states + 1) for _ in range(20)])
+    transitions = [t for t in triples(LONG_PLAN, 4) if t[0] not in (50, 70, 100)] + [(50, 0, 70), (70, 254, 100)]
+    yield list_request(sheet_of(plan(128, 255, sorted(transitions)), LONG_ACTIONS, rule((4, 1, 1), T)), 256, 0, range(129))
 
 
 def main(args):
@@ -1090,7 +1275,7 @@ def main(args):
 
     if args[:1] == ['store'] and len(args) == 3:
         given = []
-        for name in ('a-sheet', 'a-query'):
+        for name in ('a-sheet', 'b-query'):
             found = list(answered(Path(args[1], name + '.stdin').read_bytes()))
             assert b''.join(text for _, text in found) == Path(args[1], name + '.stdout').read_bytes(), name
             given += found

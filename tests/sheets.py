@@ -3,7 +3,7 @@
 
     sheets.py write DIR            writes DIR/NAME.sheet and DIR/NAME.txt for each
     sheets.py check DIR PROGRAM    runs PROGRAM on each sheet of DIR and compares with the last line of its page; then on sheets at the limits and on
-                                   refused ones, and compares with what documents 01 and 02 (a) say
+                                   refused ones, and compares with what documents 01 and 02 (a), (b) say
     sheets.py deepest FILE         the sheet on which a query nests deepest
 """
 import subprocess
@@ -46,7 +46,7 @@ def sheet_of(example):
 
 
 def line_of(sheet):
-    """what the program prints, as documents 01 and 02 (a) have it"""
+    """what the program prints, as documents 01 and 02 (a), (b) have it"""
     try:
         tab = bytearray(57344)
         cases.clear(sheet, tab)
@@ -107,7 +107,7 @@ CUT['also'] = 'Without the transition 3,5,6 the worn blank stays in the clamp fo
 
 
 def inputs():
-    """sheets at the limits, a sheet for each refusal, and inputs longer than any sheet"""
+    """sheets at the limits, sheets with loops, a sheet for each refusal, and inputs longer than any sheet"""
     yield cases.sheet_of(cases.LEAST_PLAN, cases.LEAST_ACTIONS, cases.LEAST_RULE)
     yield cases.sheet_of(cases.LONG_PLAN, cases.LONG_ACTIONS, cases.LONG_RULE)
     yield cases.deepest()
@@ -115,6 +115,9 @@ def inputs():
     yield cases.LEAST_X
     yield cases.GREATEST_X
     yield cases.LEAST_LOOP
+    # K with a loop that state 0 does not lead to, behind it as well, and with one at the end of its way
+    for more in ([(3, 0, 3)], [(3, 0, 3), (3, 1, 0)], [(2, 0, 2)]):
+        yield cases.sheet_of(cases.plan(4, 3, [(0, 1, 1), (1, 2, 2)] + more), cases.K_ACTIONS, cases.K_RULE)
     yield without_release()
     yield from cases.refusals()
     yield b''

@@ -112,7 +112,7 @@ pub few-states : (s : List ℕ) → sheetCheck s ≡ Passed → stateCount (plan
 few-states s e = bodies s e .plan-kept .few-states
 
 -- the byte at which the code finds a cell
-pub placed : (s index : List ℕ) → Prepared s index → (m n st at : ℕ) → at ≡ (st * getD index 1 0 + n) * getD index 2 0 + m → at ≡ indexOf (ruleBody s) (cell m n st)
+pub placed : (s index : List ℕ) {state : ℕ} → Prepared s index state → (m n st at : ℕ) → at ≡ (st * getD index 1 0 + n) * getD index 2 0 + m → at ≡ indexOf (ruleBody s) (cell m n st)
 placed s index p m n st at e = e ∙ ap₂ (λ (x y : ℕ). (st * x + n) * y + m) (p .nodes-are) (p .marks-are)
 
 module _ (s index t : List ℕ) (m n st : ℕ) (d : Decidable s index t (cell m n st)) where
@@ -123,8 +123,8 @@ module _ (s index t : List ℕ) (m n st : ℕ) (d : Decidable s index t (cell m 
   abbrev pub Call : List ℕ → Cell → Type 0
   Call u c = (2 * rank (planBody s) (ruleBody s) c < 2 * rank (planBody s) (ruleBody s) (cell m n st)) × Decidable s index u c
 
-  call : (u : List ℕ) (c : Cell) → sizeOf s ≤ length u → Valid (planBody s) (actionsBody s) (ruleBody s) c × (rank (planBody s) (ruleBody s) c < rank (planBody s) (ruleBody s) (cell m n st)) → Call u c
-  call u c room h = (omega (arith, h .1), decidable s (d .accepted) index u c (d .prepared) room (h .0))
+  call : (u : List ℕ) (k x : ℕ) → sizeOf s ≤ length u → Valid (planBody s) (actionsBody s) (ruleBody s) (cell k x st) × (rank (planBody s) (ruleBody s) (cell k x st) < rank (planBody s) (ruleBody s) (cell m n st)) → Call u (cell k x st)
+  call u k x room h = (omega (arith, h .1), decidable s (d .accepted) index u (cell k x st) (d .prepared) room (h .0))
 
   entries-of : (row : Row Cell) → rows (planBody s) (actionsBody s) (ruleBody s) (cell m n st) ≡ row → Each (λ c. Valid (planBody s) (actionsBody s) (ruleBody s) c × (rank (planBody s) (ruleBody s) c < rank (planBody s) (ruleBody s) (cell m n st))) (row .entries)
   entries-of row e =
@@ -133,19 +133,19 @@ module _ (s index t : List ℕ) (m n st : ℕ) (d : Decidable s index t (cell m 
 
   module _ (u : List ℕ) (room : sizeOf s ≤ length u) where
     pub call-first : (x : ℕ) → x ≡ nodeX (ruleBody s) n → 2 ≤ nodeKind (ruleBody s) n → nodeKind (ruleBody s) n < 4 → Call u (cell m x st)
-    call-first x e h l = subst (λ (y : ℕ). Call u (cell m y st)) (sym e) (call u (cell m (nodeX (ruleBody s) n) st) room (entries-of _ (row-pair (planBody s) (actionsBody s) (ruleBody s) m n st h l) .0))
+    call-first x e h l = subst (λ (y : ℕ). Call u (cell m y st)) (sym e) (call u m (nodeX (ruleBody s) n) room (entries-of _ (row-pair (planBody s) (actionsBody s) (ruleBody s) m n st h l) .0))
 
     pub call-second : (y : ℕ) → y ≡ nodeY (ruleBody s) n → 2 ≤ nodeKind (ruleBody s) n → nodeKind (ruleBody s) n < 4 → Call u (cell m y st)
-    call-second y e h l = subst (λ (z : ℕ). Call u (cell m z st)) (sym e) (call u (cell m (nodeY (ruleBody s) n) st) room (entries-of _ (row-pair (planBody s) (actionsBody s) (ruleBody s) m n st h l) .1 .0))
+    call-second y e h l = subst (λ (z : ℕ). Call u (cell m z st)) (sym e) (call u m (nodeY (ruleBody s) n) room (entries-of _ (row-pair (planBody s) (actionsBody s) (ruleBody s) m n st h l) .1 .0))
 
     pub call-outer : (X b : ℕ) → X ≡ nodeX (ruleBody s) n → b ≡ binderNode (ruleBody s) (nodeX (ruleBody s) n) → nodeKind (ruleBody s) n ≡ 6 → outer X m ≡ true → Call u (cell 0 b st)
-    call-outer X b i e k o = subst (λ (z : ℕ). Call u (cell 0 z st)) (sym e) (call u (cell 0 (binderNode (ruleBody s) (nodeX (ruleBody s) n)) st) room (entries-of _ (row-outer (planBody s) (actionsBody s) (ruleBody s) m n st k (ap (λ (y : ℕ). outer y m) (sym i) ∙ o)) .0))
+    call-outer X b i e k o = subst (λ (z : ℕ). Call u (cell 0 z st)) (sym e) (call u 0 (binderNode (ruleBody s) (nodeX (ruleBody s) n)) room (entries-of _ (row-outer (planBody s) (actionsBody s) (ruleBody s) m n st k (ap (λ (y : ℕ). outer y m) (sym i) ∙ o)) .0))
 
     pub call-body : (o y : ℕ) → o ≡ opened (nodeX (ruleBody s) n) m → y ≡ nodeY (ruleBody s) n → 7 ≤ nodeKind (ruleBody s) n → nodeKind (ruleBody s) n < 9 → Call u (cell o y st)
     call-body o y e f h l =
         subst (λ (z : ℕ). Call u (cell z y st)) (sym e)
         (subst (λ (z : ℕ). Call u (cell (opened (nodeX (ruleBody s) n) m) z st)) (sym f)
-        (call u (cell (opened (nodeX (ruleBody s) n) m) (nodeY (ruleBody s) n) st) room (entries-of _ (row-binder (planBody s) (actionsBody s) (ruleBody s) m n st h l) .0)))
+        (call u (opened (nodeX (ruleBody s) n) m) (nodeY (ruleBody s) n) room (entries-of _ (row-binder (planBody s) (actionsBody s) (ruleBody s) m n st h l) .0)))
 
   -- the numbers of binders and of their nodes are small
   pub binder-x : 7 ≤ nodeKind (ruleBody s) n → nodeKind (ruleBody s) n < 9 → nodeX (ruleBody s) n < 6

@@ -88,7 +88,7 @@ module _ (s : List ℕ) (accepted : sheetCheck s ≡ Passed) where
   uncounted c v = record { node-below = v .node-below; state-below = v .state-below; mark-right = mark-right (c .mark) (c .node) (v .node-below) (v .marked) }
 
   -- a valid cell can be decided on any table that is as long
-  pub decidable : (index t : List ℕ) (c : Cell) → Prepared s index → sizeOf s ≤ length t → Valid (planBody s) (actionsBody s) (ruleBody s) c → Decidable s index t c
+  pub decidable : (index t : List ℕ) (c : Cell) → Prepared s index (c .state) → sizeOf s ≤ length t → Valid (planBody s) (actionsBody s) (ruleBody s) c → Decidable s index t c
   decidable index t c p room v = record {
     accepted = accepted;
     prepared = p;

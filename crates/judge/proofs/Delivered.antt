@@ -31,8 +31,8 @@ gave-none : (s t : List ℕ) (r : Cleared) (u : List ℕ) → Clears s t r u →
 gave-none s t r u c just = sym (ap (λ (x : ClearReport). x .number) (c .1 .0)) ∙ just
 
 pub delivered : DeliveredThree
-delivered s t states r u answers v c just quiet q =
-    let d = demand3 .lists s t states (gave-none s t r u c just) quiet in
+delivered s t states r u answers v c just q =
+    let d = demand3 .lists s t states (gave-none s t r u c just) in
     record {
       answers-are = cleared-report s t states r u answers v c q;
       table-is = calls-leave s q ∙ ap (λ (x : List ℕ). tableAfter s x states) (c .1 .1);

@@ -28,10 +28,10 @@ use Rattle.judge.specs.Loops.{every, settled}
 use Rattle.judge.specs.Tables.{count, rewritten, among, changed, fills, filling, query}
 use Rattle.judge.specs.Cells.{following, rows, targets}
 use Rattle.judge.specs.Clearing.{sizeOf}
-use Rattle.judge.specs.Querying.{loopless, bytesRight, queryCheck, queriedOf, tableQueried, QueryReport}
+use Rattle.judge.specs.Querying.{bytesRight, queryCheck, queriedOf, tableQueried, QueryReport}
 use Rattle.judge.specs.Demand3.{reports}
 use Rattle.calculus.specs.KeySheet.{K}
-use Rattle.judge.specs.SheetsToTry.{K-greatest, least-self, greatest-self, every-false, some-true, least-loop, greatest-loop, judged, Asked, Word, SheetsToTry}
+use Rattle.judge.specs.SheetsToTry.{K-greatest, least-self, greatest-self, every-false, some-true, least-loop, greatest-loop, loops-elsewhere, judged, refusedBy, Asked, Word, SheetsToTry}
 use Rattle.judge.proofs.JustCleared.{cleared-exact}
 
 -- on the cleared bytes alone
@@ -52,7 +52,7 @@ word s w accepted small same = record {
 }
 
 pub sheets-to-try : SheetsToTry
-unfolding bit sheetOf sheetCheck headingRight contentsRight entryIs bodiesCheck planCheck planSized lowestFrom transitionFaulty actionsCheck actionsSized entryFaulty entryRight ruleCheck ruleSized extent bindersBefore binderNode endWithin bindingFaulty transitionsFrom actionWithin formulaWithin meets guarded guardedIn eval rounds tabulate valuesBelow anyTransition departs joined looked value need every settled count rewritten among changed fills filling query following rows targets loopless bytesRight queryCheck queriedOf tableQueried reports
+unfolding bit sheetOf sheetCheck headingRight contentsRight entryIs bodiesCheck planCheck planSized lowestFrom transitionFaulty actionsCheck actionsSized entryFaulty entryRight ruleCheck ruleSized extent bindersBefore binderNode endWithin bindingFaulty transitionsFrom actionWithin formulaWithin meets guarded guardedIn eval rounds tabulate valuesBelow anyTransition departs joined looked value need every settled count rewritten among changed fills filling query following rows targets bytesRight queryCheck queriedOf tableQueried reports
 sheets-to-try = record {
   key-length = refl;
   p1 = asked K (0 ∷ []) (judged true 17 ∷ []) refl refl;
@@ -69,6 +69,7 @@ sheets-to-try = record {
   p11-greatest = word greatest-loop 1 refl (omega arith) one;
   p11-query = λ t. refl;
   p11-query-greatest = λ t. refl;
+  b-loops = asked loops-elsewhere (0 ∷ 1 ∷ 2 ∷ 3 ∷ 4 ∷ 1 ∷ 5 ∷ []) (refusedBy 12 ∷ judged false 2 ∷ refusedBy 12 ∷ refusedBy 12 ∷ judged true 1 ∷ judged false 0 ∷ refusedBy 11 ∷ []) refl refl;
 }
   where
     of-three : (state : ℕ) → state < 3 → eval (planOf (planBody K)) (formula (actionsBody K) (ruleBody K) 0) emptyContext state ≡ bit 3 state

@@ -3,6 +3,7 @@ use Prim.Native.Nat.{ℕ, _+_, _*_, _-_, _<_, _≤_}
 use mathlib.Core.Path.{_≡_, refl, sym, ap, subst, _∙_}
 use mathlib.Core.Bool.{Bool, true, false, not, Bool·beq}
 use mathlib.Core.List.{List, [], _∷_}
+use mathlib.Core.Logic.{inl, inr}
 use native.Mathlib.Omega.{arith}
 use native.Mathlib.Nat.{add-assoc, zero-add, sub-zero}
 use native.Mathlib.Decide.{decLt}
@@ -24,9 +25,10 @@ use Rattle.judge.specs.Rows.{disjunction, conjunction}
 use Rattle.judge.specs.Tables.{Result, out}
 use Rattle.judge.specs.Solver.{after, walk}
 use Rattle.judge.specs.Cells.{Cell, cell, following, successors}
-use Rattle.judge.specs.Deciding.{firstFrom, Following, Decidable, resultAt, verdictIn, visitsIn, Joined, Decided, connectiveOf, walkAt, Followed}
+use Rattle.judge.specs.Deciding.{firstFrom, Prepared, Following, Decidable, resultAt, verdictIn, visitsIn, Joined, Decided, connectiveOf, walkAt, Followed}
+use Rattle.judge.proofs.Settled.{onward}
 use Rattle.judge.proofs.Height.{height, height-falls, successor-settled}
-use Rattle.judge.proofs.Outgoing.{first-bound, first-below, first-from, among, successor-at}
+use Rattle.judge.proofs.Outgoing.{first-bound, first-below, first-from, first-order, among, successor-at}
 use Rattle.judge.proofs.ValidCells.{Valid}
 use Rattle.judge.proofs.Ranks.{rank, level-few}
 use Rattle.judge.proofs.Solver.{walk-decided, walk-on}
@@ -39,14 +41,6 @@ after-after m n (out v k t) = ap (λ (x : ℕ). out v x t) (sym (add-assoc m n k
 
 after-none : (r : Result) → r ≡ after 0 r
 after-none (out v k t) = ap (λ (x : ℕ). out v x t) (sym (zero-add k))
-
--- a state's transitions begin where those of earlier states end
-first-order : (p : List ℕ) → PlanKept p → (st : ℕ) → firstFrom p st ≤ firstFrom p (st + 1)
-first-order p k st =
-    elim (decLt (firstFrom p (st + 1)) (firstFrom p st)) [
-      | yes q ↦ absurd (omega (arith, first-below p k st (firstFrom p (st + 1)) q, first-from p k (st + 1) (firstFrom p (st + 1)) (omega arith) (omega (arith, first-bound p k st))))
-      | no q ↦ omega arith
-    ]
 
 -- the falling number of a walk at a state: above those of the cells at its successors, below those of its own cells
 abbrev pub walkRank : List ℕ → ℕ → ℕ
@@ -108,8 +102,18 @@ module _ (s index t : List ℕ) (n st : ℕ) (f : Following s index t n st) wher
       pub met : (b : Bool) (mask lab e : ℕ) → b ≡ bit mask e → mask ≡ getD index (160 + lab) 0 → lab ≡ label (planBody s) i → e ≡ nodeX (ruleBody s) n → b ≡ meets (actionCount (planBody s)) (actionFormula (actionsBody s) (nodeX (ruleBody s) n)) (label (planBody s) i)
       met b mask lab e p q r x =
           p ∙ (ap (λ (y : ℕ). bit mask y) x ∙
-          (ap (λ (y : ℕ). bit y (nodeX (ruleBody s) n)) (q ∙ (ap (λ (y : ℕ). getD index (160 + y) 0) r ∙ f .prepared .masks-are i (here .0))) ∙
+          (ap (λ (y : ℕ). bit y (nodeX (ruleBody s) n)) (q ∙ (ap (λ (y : ℕ). getD index (160 + y) 0) r ∙ f .prepared .states-are st (inl refl) .masks-are i (omega (arith, w .first-is, w .reached)) (omega (arith, w .end-is)))) ∙
           meeting-bit (actionCount (planBody s)) (actionsBody s) (label (planBody s) i) (nodeX (ruleBody s) n) (kept .actions-kept .few) (modal .x-below)))
+
+      -- what is prepared for a state is prepared for its successors
+      prepared-on : Prepared s index st → Prepared s index (target (planBody s) i)
+      prepared-on p = record {
+        offset-is = p .offset-is;
+        nodes-are = p .nodes-are;
+        marks-are = p .marks-are;
+        binders-are = p .binders-are;
+        states-are = λ u r. p .states-are u (inr (onward (successor-at (planBody s) (kept .plan-kept) st i (omega (arith, w .first-is, w .reached)) (omega (arith, w .end-is))) r));
+      }
 
       child-valid : Valid (planBody s) (actionsBody s) (ruleBody s) (cell 0 (nodeY (ruleBody s) n) (target (planBody s) i))
       child-valid = record {
@@ -127,7 +131,7 @@ module _ (s index t : List ℕ) (n st : ℕ) (f : Following s index t n st) wher
       call-child Y T e g =
           subst (λ (y : ℕ). (2 * rank (planBody s) (ruleBody s) (cell 0 y T) < walkRank s st) × Decidable s index u (cell 0 y T)) (sym e)
           (subst (λ (z : ℕ). (2 * rank (planBody s) (ruleBody s) (cell 0 (nodeY (ruleBody s) n) z) < walkRank s st) × Decidable s index u (cell 0 (nodeY (ruleBody s) n) z)) (sym g)
-          (falls, decidable s (f .accepted) index u _ (f .prepared) (omega (arith, w .long, f .room)) child-valid))
+          (falls, decidable s (f .accepted) index u _ (prepared-on (f .prepared)) (omega (arith, w .long, f .room)) child-valid))
 
       module _ (yes-met : meets (actionCount (planBody s)) (actionFormula (actionsBody s) (nodeX (ruleBody s) n)) (label (planBody s) i) ≡ true) (Y T : ℕ) (e : Y ≡ nodeY (ruleBody s) n) (g : T ≡ target (planBody s) i) (v : ℕ) (x : List ℕ) (d : Decided s (cell 0 Y T) u v x) where
         hit : rest i ≡ cell 0 (nodeY (ruleBody s) n) (target (planBody s) i) ∷ rest (i + 1)

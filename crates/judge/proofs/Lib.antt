@@ -23,7 +23,7 @@ pub mod RowValues
 pub mod Successors
 pub mod Truth
 pub mod ValidCells
-pub mod Acyclic
+pub mod LoopFree
 pub mod JustCleared
 pub mod SheetLists
 pub mod GuardedNodes

@@ -7,7 +7,6 @@ use mathlib.Core.Logic.{inl, inr}
 use mathlib.Core.Path.{_≡_, sym, ap, subst, _∙_}
 use native.Mathlib.Omega.{arith}
 use native.Mathlib.Decide.{decLt}
-use lib.ListN.{getD}
 use lib.Dec.{leb}
 use borrow.Author.Tests.{leb-true, leb-false}
 use Rattle.sheet.specs.Plan.{stateCount, transitionCount, origin, label, target}
@@ -22,12 +21,6 @@ use Rattle.judge.specs.Deciding.{firstFrom}
 use Rattle.judge.proofs.Settled.{every-all, settled-reaches-none, settled-exactly}
 use Rattle.judge.proofs.Successors.{target-among, target-of, successor-below}
 
--- where a state's transitions end, in an index that says where each state's begin
-pub end-place : (p index : List ℕ) → ((state : ℕ) → state ≤ stateCount p → getD index (16 + state) 0 ≡ firstFrom p state) → (s : ℕ) → s < stateCount p → getD index (17 + s) 0 ≡ firstFrom p (s + 1)
-end-place p index firsts s h =
-    let e : 17 + s ≡ 16 + (s + 1) = omega arith in
-    ap (λ (k : ℕ). getD index k 0) e ∙ firsts (s + 1) (omega arith)
-
 module _ (p : List ℕ) (kept : PlanKept p) where
   origin-rises : (i : ℕ) → suc i < transitionCount p → origin p i ≤ origin p (suc i)
   origin-rises i h = go (kept .rising i h)
@@ -36,7 +29,7 @@ module _ (p : List ℕ) (kept : PlanKept p) where
       go (inl l) = omega arith
       go (inr e) = omega (arith, e .0)
 
-  origin-order : (i j : ℕ) → i ≤ j → j < transitionCount p → origin p i ≤ origin p j
+  pub origin-order : (i j : ℕ) → i ≤ j → j < transitionCount p → origin p i ≤ origin p j
   origin-order i zero h l = let e : i ≡ 0 = omega arith in omega (arith, ap (origin p) e)
   origin-order i (suc j) h l =
       elim (decLt i (suc j)) [
@@ -59,10 +52,45 @@ module _ (p : List ℕ) (kept : PlanKept p) where
   pub first-from : (s i : ℕ) → firstFrom p s ≤ i → i < transitionCount p → s ≤ origin p i
   first-from s i h l = omega (arith, first-found s (omega arith), origin-order (firstFrom p s) i h l)
 
+  -- a state's transitions begin where those of earlier states end
+  pub first-order : (s : ℕ) → firstFrom p s ≤ firstFrom p (s + 1)
+  first-order s =
+      elim (decLt (firstFrom p (s + 1)) (firstFrom p s)) [
+        | yes q ↦ absurd (omega (arith, first-below s (firstFrom p (s + 1)) q, first-from (s + 1) (firstFrom p (s + 1)) (omega arith) (omega (arith, first-bound s))))
+        | no q ↦ omega arith
+      ]
+
+  -- the place that parts the transitions of earlier states from the others
+  pub first-parts : (s k : ℕ) → k ≤ transitionCount p → ((i : ℕ) → i < k → origin p i < s) → ((i : ℕ) → k ≤ i → i < transitionCount p → s ≤ origin p i) → k ≡ firstFrom p s
+  first-parts s k h low high =
+      elim (decLt k (firstFrom p s)) [
+        | yes q ↦ absurd (omega (arith, first-below s k q, high k (omega arith) (omega (arith, first-bound s))))
+        | no q ↦
+            elim (decLt (firstFrom p s) k) [
+              | yes r ↦ absurd (omega (arith, low (firstFrom p s) r, first-found s (omega arith)))
+              | no r ↦ omega arith
+            ]
+      ]
+
   pub among : (s i : ℕ) → firstFrom p s ≤ i → i < firstFrom p (s + 1) → (i < transitionCount p) × (origin p i ≡ s)
   among s i h l =
       let b : i < transitionCount p = omega (arith, first-bound (s + 1)) in
       (b, omega (arith, first-below (s + 1) i l, first-from s i h b))
+
+  -- the transitions of a state go on while they leave it
+  pub still-from : (s i : ℕ) → i < transitionCount p → origin p i ≡ s → i < firstFrom p (s + 1)
+  still-from s i h e =
+      elim (decLt i (firstFrom p (s + 1))) [
+        | yes q ↦ q
+        | no q ↦ absurd (omega (arith, first-from (s + 1) i (omega arith) h))
+      ]
+
+  pub no-longer-from : (s i : ℕ) → firstFrom p s ≤ i → (i < transitionCount p → origin p i ≡ s → ⊥) → firstFrom p (s + 1) ≤ i
+  no-longer-from s i h none =
+      elim (decLt i (firstFrom p (s + 1))) [
+        | yes q ↦ let a = among s i h q in absurd (none (a .0) (a .1))
+        | no q ↦ omega arith
+      ]
 
   pub successor-at : (s i : ℕ) → firstFrom p s ≤ i → i < firstFrom p (s + 1) → List·Memᴰ (target p i) (successors p s)
   successor-at s i h l = let a = among s i h l in target-among s (at-member p i (a .0)) (a .1)

@@ -1,7 +1,7 @@
 -- What the code of preparing shows.
 use Prim.Native.Nat.{ℕ, zero, suc, _+_, _-_, _<_, _≤_}
 use mathlib.Core.Path.{_≡_, refl, sym, ap, subst, _∙_}
-use mathlib.Core.Bool.{Bool, false}
+use mathlib.Core.Bool.{Bool, true, false}
 use mathlib.Core.List.{List}
 use native.Mathlib.Omega.{arith}
 use native.Mathlib.Numerals.{add-one}
@@ -21,37 +21,18 @@ use Rattle.sheet.specs.declared.Check.the-variants.{Passed}
 use Rattle.sheet.proofs.Accepted.{accepted-iff, plan-length, actions-length, kept-lengths}
 use Rattle.sheet.proofs.Lowest.{lowest-start, lowest-next, lowest-below, lowest-bound}
 use Rattle.judge.specs.Cells.{marks}
-use Rattle.judge.specs.Deciding.{firstFrom, Prepared}
-use Rattle.judge.specs.Preparing.{SameBefore, Headed, Binders, AllBefore, Firsts, Masks}
+use Rattle.judge.specs.Deciding.{Prepared}
+use Rattle.judge.specs.Preparing.{SameBefore, Headed, Binders, Masks}
+use Rattle.judge.specs.Searching.{Explored}
+use Rattle.judge.proofs.Outgoing.{among}
 
--- ---- where the transitions of a state begin
+-- ---- a search that begins further on
 
 -- a search may begin at i where the test fails before it
 pub begin : (test : ℕ → Bool) (n i : ℕ) → i ≤ n → ((k : ℕ) → k < i → test k ≡ false) → lowestFrom test (n - i) i ≡ lowest test n
 begin test n zero h none = lowest-start test n
 begin test n (suc i) h none =
     rw (← add-one) (sym (lowest-next test n i (omega arith) (none i (omega arith))) ∙ begin test n i (omega arith) (λ k l. none k (omega arith)))
-
-module _ (p : List ℕ) where
-  -- what is tested of a transition
-  abbrev pub from : ℕ → ℕ → Bool
-  from state i = leb state (origin p i)
-
-  pub go-on : (state at count : ℕ) → AllBefore p state at → count ≡ transitionCount p → lowestFrom (from state) (count - at) at ≡ firstFrom p state
-  unfolding firstFrom
-  go-on state at count b e = rw e (begin (from state) (transitionCount p) at (b .among) (λ k h. lt-leb state (origin p k) (b .earlier k h)))
-
-  pub none-before : (state : ℕ) → AllBefore p state 0
-  none-before state = record { among = omega arith; earlier = λ i h. absurd (omega arith) }
-
-  -- those before the first of a state are before the first of the next
-  pub next-before : (state at : ℕ) → at ≡ firstFrom p state → AllBefore p (state + 1) at
-  unfolding firstFrom
-  next-before state at e =
-      rw e (record {
-        among = lowest-bound (from state) (transitionCount p);
-        earlier = λ i h. omega (arith, leb-false state (origin p i) (lowest-below (from state) (transitionCount p) i h));
-      })
 
 -- ---- places that are filled one after another
 
@@ -88,36 +69,16 @@ module _ (R : ℕ → ℕ → Type 0) (base : ℕ) (old : List ℕ) where
     pub filled-next : R n (getD l (base + n) 0) → Filled (n + 1) l
     filled-next here = record { size = f .size; same = f .same; filled = below-more (λ k. R k (getD l (base + k) 0)) n (f .filled) here }
 
--- ---- actions that occur
+-- ---- masks in place of ones
 
--- the actions of the first n transitions have their 1
-abbrev pub Marked : List ℕ → ℕ → List ℕ → Type 0
-Marked p n used = (i : ℕ) → i < n → (label p i < 256) × (getD used (label p i) 0 ≡ 1)
+-- the places from one on are as they were
+abbrev pub SameFrom : ℕ → List ℕ → List ℕ → Type 0
+SameFrom at old new = (i : ℕ) → at ≤ i → getD new i 0 ≡ getD old i 0
 
-pub marked-more : (p : List ℕ) (n a : ℕ) (used : List ℕ) → a ≡ label p n → a < length used → length used ≡ 256 → Marked p n used → Marked p (n + 1) (set used a 1)
-marked-more p n a used e h size all i l =
-    elim (ℕ-discrete i n) [
-      | yes f ↦
-          let g : label p i ≡ a = ap (label p) f ∙ sym e in
-          rw g (omega arith, getD-set-same used a 1 0 h)
-      | no f ↦
-          let before = all i (below-last f) in
-          (before .0, kept (label p i) (before .1))
-    ]
-  where
-    below-last : (i ≡ n → ⊥) → i < n
-    below-last f =
-        elim (decLt i n) [
-          | yes q ↦ q
-          | no q ↦ absurd (f (omega arith))
-        ]
-
-    kept : (k : ℕ) → getD used k 0 ≡ 1 → getD (set used a 1) k 0 ≡ 1
-    kept k one =
-        elim (ℕ-discrete k a) [
-          | yes f ↦ rw f (getD-set-same used a 1 0 h)
-          | no f ↦ getD-set-other used a k 1 0 f ∙ one
-        ]
+pub same-from-set : (at v : ℕ) (old l : List ℕ) → SameFrom at old l → SameFrom (at + 1) old (set l at v)
+same-from-set at v old l same i h =
+    let differ : i ≡ at → ⊥ = λ e. omega arith in
+    getD-set-other l at i v 0 differ ∙ same i (omega arith)
 
 -- ---- where the rule lies
 
@@ -152,20 +113,26 @@ few-states s e = plan-kept s e .few-states
 pub few-nodes : (s : List ℕ) → sheetCheck s ≡ Passed → nodeCount (ruleBody s) ≤ 64
 few-nodes s e = accepted-iff s .0 e .bodies-kept .rule-kept .few-nodes
 
-module _ (s : List ℕ) (e : sheetCheck s ≡ Passed) where
-  steps : {first second third fourth : List ℕ} → Headed s first → Binders (ruleBody s) first second → Firsts (planBody s) second third → Masks (planBody s) (actionsBody s) third fourth → Prepared s fourth
-  steps {first} {second} {third} {fourth} h b f m =
-      let after-head : SameBefore 3 first fourth = λ i l. m .same i (omega arith) ∙ f .same i (omega arith) ∙ b .same i l in
+module _ (s : List ℕ) (e : sheetCheck s ≡ Passed) (state : ℕ) where
+  steps : {first second third fourth : List ℕ} → Headed s first → Binders (ruleBody s) first second → Explored (planBody s) second third state true → Masks (planBody s) (actionsBody s) third fourth → Prepared s fourth state
+  steps {first} {second} {third} {fourth} h b x m =
+      let after-head : SameBefore 3 first fourth = λ i l. m .same i (omega arith) ∙ x .same refl i (omega arith) ∙ b .same i l in
       record {
         offset-is = after-head 0 (omega arith) ∙ h .offset-is;
         nodes-are = after-head 1 (omega arith) ∙ h .nodes-are;
         marks-are = after-head 2 (omega arith) ∙ h .marks-are;
-        binders-are = λ k l. m .same (3 + k) (omega arith) ∙ f .same (3 + k) (omega arith) ∙ b .filled k l;
-        firsts-are = λ state l. m .same (16 + state) (omega (arith, few-states s e)) ∙ f .filled state l;
-        masks-are = m .filled;
+        binders-are = λ k l. m .same (3 + k) (omega arith) ∙ x .same refl (3 + k) (omega arith) ∙ b .filled k l;
+        states-are = λ u r.
+            let k = x .reached refl u r in
+            let small : u < 128 = omega (arith, k .state-below, few-states s e) in
+            record {
+              begins = m .same (16 + u) (omega arith) ∙ k .begins;
+              ends = m .same (17 + u) (omega arith) ∙ k .ends;
+              masks-are = λ i a b. m .filled (label (planBody s) i) (plan-kept s e .label-below i (among (planBody s) (plan-kept s e) u i a b .0)) (k .noted i a b);
+            };
       }
 
-  pub prepared : {p a r first second third fourth : List ℕ} → p ≡ planBody s → a ≡ actionsBody s → r ≡ ruleBody s → Headed s first → Binders r first second → Firsts p second third → Masks p a third fourth → Prepared s fourth
-  prepared {p} {a} {r} {first} {second} {third} {fourth} ep ea er h b f m =
-      steps h (subst (λ (x : List ℕ). Binders x first second) er b) (subst (λ (x : List ℕ). Firsts x second third) ep f)
-      (subst (λ (x : List ℕ). Masks x (actionsBody s) third fourth) ep (subst (λ (x : List ℕ). Masks p x third fourth) ea m))
+  pub prepared : {p a r first second third fourth : List ℕ} → p ≡ planBody s → a ≡ actionsBody s → r ≡ ruleBody s → Headed s first → Binders r first second → Explored p second third state true → Masks p a third fourth → Prepared s fourth state
+  prepared {p} {a} {r} {first} {second} {third} {fourth} ep ea er h b x m =
+      steps h (subst (λ (y : List ℕ). Binders y first second) er b) (subst (λ (y : List ℕ). Explored y second third state true) ep x)
+      (subst (λ (y : List ℕ). Masks y (actionsBody s) third fourth) ep (subst (λ (y : List ℕ). Masks p y third fourth) ea m))

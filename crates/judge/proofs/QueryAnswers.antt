@@ -20,12 +20,11 @@ use Rattle.sheet.specs.declared.Check.the-variants.{Passed, Failed}
 use Rattle.judge.specs.Tables.{byteAt, Result, out, verdict, visits, table}
 use Rattle.judge.specs.Cells.{cell}
 use Rattle.judge.specs.Clearing.{sizeOf}
-use Rattle.judge.specs.Querying.{loopless, bytesRight, queryCheck, resultOf, answerQueried, queriedOf, tableQueried, reportedQuery, reportQuery, queryReportOf}
+use Rattle.judge.specs.Querying.{loopFree, bytesRight, queryCheck, resultOf, answerQueried, queriedOf, tableQueried, reportedQuery, reportQuery, queryReportOf}
 use Rattle.judge.specs.Deciding.{Prepared, Decidable, Decided, verdictIn, visitsIn}
 use Rattle.judge.specs.Delivered.{Queries}
 use Rattle.judge.specs.declared.Queried.{Queried}
 use Rattle.judge.specs.declared.Queried.the-variants.{Judged, Refused}
-use Rattle.judge.proofs.Acyclic.{loopless-settled}
 use Rattle.judge.proofs.DecideSteps.{bodies}
 
 -- a byte over 2 below size, or none
@@ -102,11 +101,11 @@ module _ (s : List ℕ) (state : ℕ) (t : List ℕ) where
     no-state h = by-check NoSuchState (rw (e, le-ltb state (stateCount (planBody s)) h))
 
     module _ (h : state < stateCount (planBody s)) where
-      pub a-loop : loopless (planBody s) ≡ false → Answers (Refused Loop) t
+      pub a-loop : loopFree (planBody s) state ≡ false → Answers (Refused Loop) t
       unfolding queryCheck
       a-loop f = by-check Loop (rw (e, lt-ltb state (stateCount (planBody s)) h, f))
 
-      module _ (f : loopless (planBody s) ≡ true) where
+      module _ (f : loopFree (planBody s) state ≡ true) where
         pub short : length t < sizeOf s → Answers (Refused TableShort) t
         unfolding queryCheck
         short l = by-check TableShort (rw (e, lt-ltb state (stateCount (planBody s)) h, f, lt-leb (sizeOf s) (length t) l))
@@ -128,13 +127,13 @@ module _ (s : List ℕ) (state : ℕ) (t : List ℕ) where
               (rw (passes g) (ap (λ (x : Result). Judged (verdict x) (visits x)) r))
               (rw (passes g) (ap table r))
 
-          pub root-decidable : (index : List ℕ) → Prepared s index → Decidable s index t (cell 0 0 state)
+          pub root-decidable : (index : List ℕ) → Prepared s index state → Decidable s index t (cell 0 0 state)
           root-decidable index p = record {
             accepted = e;
             prepared = p;
             room = l;
             node-below = bodies s e .rule-kept .some-nodes;
             state-below = h;
-            state-settled = loopless-settled (planBody s) (bodies s e .plan-kept) .0 f state h;
+            state-settled = f;
             mark-right = tt;
           }

@@ -8,7 +8,7 @@ use native.Mathlib.Omega.{arith}
 use lib.Dec.{eqb}
 use borrow.Author.Tests.{eqb-true}
 use Rattle.judge.specs.Tables.{count}
-use Rattle.judge.specs.Loops.{every, Way, last, first, Loop, settled}
+use Rattle.judge.specs.Loops.{every, Way, last, first, Reachable, Loop, LoopReachable, settled}
 use Rattle.judge.proofs.Bytes.{bit, count-le, count-one, count-sum}
 
 pub every-mem : (p : ℕ → Bool) (l : List ℕ) (t : ℕ) → every p l ≡ true → List·Memᴰ t l → p t ≡ true
@@ -35,6 +35,16 @@ every-find p (x ∷ l) h = go (p x) refl h (λ q. every-find p l q)
     go true e h rest = let r : (t : ℕ) × List·Memᴰ t l × (p t ≡ false) = rest h in (r .0, List·Memᴰ·tail (r .1), r .2)
     go false e h rest = (x, List·Memᴰ·head refl, e)
 
+-- one step more
+pub way-on : {C : Type 0} {next : C → List C} {s t u : C} → Way next s t → List·Memᴰ u (next t) → Way next s u
+way-on (last m) n = first m (last n)
+way-on (first m w) n = first m (way-on w n)
+
+-- one step before
+pub onward : {C : Type 0} {next : C → List C} {s t u : C} → List·Memᴰ t (next s) → Reachable next t u → Way next s u
+onward {next = next} {s = s} m (inl e) = subst (λ (x : _). Way next s x) (sym e) (last m)
+onward m (inr w) = first m w
+
 -- one number more in a set
 adding : (ℕ → Bool) → ℕ → ℕ → Bool
 adding p s u = eqb s u || p u
@@ -46,10 +56,6 @@ count-adding n p s h out = omega (arith, count-one n s h, count-sum n (eqb s) p 
     go : (i : ℕ) (b : Bool) → eqb s i ≡ b → bit (eqb s i) + bit (p i) ≡ bit (eqb s i || p i)
     go i true e = rw (e, sym (ap p (eqb-true s i e)) ∙ out)
     go i false e = rw e (omega arith)
-
--- a loop can be reached from s: s lies on one, or a way leads from s to one
-abbrev pub ReachesLoop : (ℕ → List ℕ) → ℕ → Type 0
-ReachesLoop next s = Loop next s ⊎ ((t : ℕ) × Way next s t × Loop next t)
 
 module _ (next : ℕ → List ℕ) where
   pub settled-next : (r s t : ℕ) → settled next (suc r) s ≡ true → List·Memᴰ t (next s) → settled next r t ≡ true
@@ -73,29 +79,27 @@ module _ (next : ℕ → List ℕ) where
       go zero r l h = omega arith
       go (suc b) r l h = let e : (q : ℕ) × (q < r) × (settled next q s ≡ true) = settled-way r h w in go b (e .0) (omega (arith, e .1)) (e .2)
 
-  pub settled-reaches-none : (r s : ℕ) → settled next r s ≡ true → ReachesLoop next s → ⊥
-  settled-reaches-none r s h (inl w) = settled-no-loop r s h w
-  settled-reaches-none r s h (inr e) = let q : (q : ℕ) × (q < r) × (settled next q (e .0) ≡ true) = settled-way r h (e .1) in settled-no-loop (q .0) (e .0) (q .2) (e .2)
+  pub settled-reaches-none : (r s : ℕ) → settled next r s ≡ true → LoopReachable next s → ⊥
+  settled-reaches-none r s h l = go (l .1)
+    where
+      go : Reachable next s (l .0) → ⊥
+      go (inl e) = settled-no-loop r (l .0) (subst (λ (t : ℕ). settled next r t ≡ true) (sym e) h) (l .2)
+      go (inr w) = let q : (q : ℕ) × (q < r) × (settled next q (l .0) ≡ true) = settled-way r h w in settled-no-loop (q .0) (l .0) (q .2) (l .2)
 
-  snoc : {s t u : ℕ} → Way next s t → List·Memᴰ u (next t) → Way next s u
-  snoc (last m) n = first m (last n)
-  snoc (first m w) n = first m (snoc w n)
-
-  reaches-back : (s t : ℕ) → List·Memᴰ t (next s) → ReachesLoop next t → ReachesLoop next s
-  reaches-back s t m (inl w) = inr (t, last m, w)
-  reaches-back s t m (inr e) = inr (e .0, first m (e .1), e .2)
+  reaches-back : (s t : ℕ) → List·Memᴰ t (next s) → LoopReachable next t → LoopReachable next s
+  reaches-back s t m l = (l .0, inr (onward m (l .1)), l .2)
 
   module _ (S : ℕ) (inside : (s : ℕ) → s < S → (t : ℕ) → List·Memᴰ t (next s) → t < S) where
     -- `passed` holds the states of the way so far
     abbrev Through : ℕ → Type 0
-    Through r = (s : ℕ) (passed : ℕ → Bool) → ((u : ℕ) → passed u ≡ true → Way next u s) → S ≤ r + count S passed → s < S → settled next r s ≡ false → ReachesLoop next s
+    Through r = (s : ℕ) (passed : ℕ → Bool) → ((u : ℕ) → passed u ≡ true → Way next u s) → S ≤ r + count S passed → s < S → settled next r s ≡ false → LoopReachable next s
 
     unsettled : (r : ℕ) → Through r
     unfolding settled adding
     unsettled zero s passed ways enough h e = go (passed s) refl
       where
-        go : (b : Bool) → passed s ≡ b → ReachesLoop next s
-        go true p = inl (ways s p)
+        go : (b : Bool) → passed s ≡ b → LoopReachable next s
+        go true p = (s, inl refl, ways s p)
         go false p = absurd (omega (arith, count-adding S passed s h p, count-le S (adding passed s)))
     unsettled (suc r) s passed ways enough h e = go (passed s) refl (unsettled r)
       where
@@ -104,20 +108,20 @@ module _ (next : ℕ → List ℕ) where
 
         ways-on : (u : ℕ) (b : Bool) → eqb s u ≡ b → (b || passed u) ≡ true → Way next u (find .0)
         ways-on u true q p = subst (λ (v : ℕ). Way next v (find .0)) (eqb-true s u q) (last (find .1))
-        ways-on u false q p = snoc (ways u p) (find .1)
+        ways-on u false q p = way-on (ways u p) (find .1)
 
-        go : (b : Bool) → passed s ≡ b → Through r → ReachesLoop next s
-        go true p rest = inl (ways s p)
+        go : (b : Bool) → passed s ≡ b → Through r → LoopReachable next s
+        go true p rest = (s, inl refl, ways s p)
         go false p rest =
             reaches-back s (find .0) (find .1)
             (rest (find .0) (adding passed s) (λ u q. ways-on u (eqb s u) refl q) (omega (arith, count-adding S passed s h p)) (inside s h (find .0) (find .1)) (find .2))
 
-    pub settled-or-loop : (s : ℕ) → s < S → settled next S s ≡ false → ReachesLoop next s
+    pub settled-or-loop : (s : ℕ) → s < S → settled next S s ≡ false → LoopReachable next s
     settled-or-loop s h e = unsettled S s (λ u. false) (λ u q. absurd (true≢false (sym q))) (omega arith) h e
 
-    pub settled-exactly : (s : ℕ) → s < S → (settled next S s ≡ true) ↔ (ReachesLoop next s → ⊥)
+    pub settled-exactly : (s : ℕ) → s < S → (settled next S s ≡ true) ↔ (LoopReachable next s → ⊥)
     settled-exactly s h = (settled-reaches-none S s, λ none. go (settled next S s) refl none)
       where
-        go : (b : Bool) → settled next S s ≡ b → (ReachesLoop next s → ⊥) → settled next S s ≡ true
+        go : (b : Bool) → settled next S s ≡ b → (LoopReachable next s → ⊥) → settled next S s ≡ true
         go true e none = e
         go false e none = absurd (none (settled-or-loop s h e))

@@ -1,24 +1,27 @@
--- The rows of an accepted sheet without loop, as written and as a table changes them, have one solution: no chain of them returns.
-use Prim.Native.Nat.{ℕ, _<_}
-use mathlib.Core.Path.{_≡_, sym, subst}
+-- Where no loop can be reached from the queried state, the rows of the cells that the query can come to have one solution, as written and as a table changes
+-- them: no chain of them returns.
+use Prim.Native.Nat.{ℕ, zero, suc, _<_}
+use mathlib.Core.Path.{_≡_, refl, sym, subst}
+use mathlib.Core.Bool.{Bool, true, false}
 use mathlib.Core.Logic.{_⊎_, inl, inr}
-use mathlib.Core.List.{List, [], _∷_, List·Memᴰ, List·Memᴰ·not-nil, List·Memᴰ·cases-cons}
+use mathlib.Core.List.{List, [], _∷_, _++_, List·Memᴰ, List·Memᴰ·head, List·Memᴰ·tail, List·Memᴰ·not-nil, List·Memᴰ·cases-cons}
 use native.Mathlib.Omega.{arith}
 use Rattle.sheet.specs.Contents.{planBody, actionsBody, ruleBody}
 use Rattle.sheet.specs.Reading.{sheetCheck}
 use Rattle.sheet.specs.declared.Check.the-variants.{Passed}
-use Rattle.judge.specs.Rows.{Row}
-use Rattle.judge.specs.Loops.{Way, last, first}
-use Rattle.judge.specs.Cells.{Cell, CellOf, enough, indexOf}
-use Rattle.judge.specs.Querying.{NoLoop}
-use Rattle.judge.specs.Solutions.{writtenRows, changedRows, OneSolution, RowsHaveOneSolution}
+use Rattle.judge.specs.Rows.{Connective, Row, decides, looked, value, need}
+use Rattle.judge.specs.Loops.{Way, last, first, Reachable}
+use Rattle.judge.specs.Cells.{Cell, cell, enough, indexOf}
+use Rattle.judge.specs.Solutions.{writtenRows, changedRows, LoopFreeCell, ComesTo, OneSolution, RowsHaveOneSolution}
+use Rattle.judge.proofs.Settled.{way-on, onward}
 use Rattle.judge.proofs.Systems.{Each, Falling}
 use Rattle.judge.proofs.Fuel.{value-row, value-unique, need-row}
 use Rattle.judge.proofs.Changed.{changed-falling}
 use Rattle.judge.proofs.ValidCells.{Valid}
 use Rattle.judge.proofs.Ranks.{rank, rank-enough, falling}
-use Rattle.judge.proofs.Acyclic.{acyclic-settled}
+use Rattle.judge.proofs.LoopFree.{free-exactly}
 use Rattle.judge.proofs.DecideSteps.{bodies, counted, uncounted}
+use Rattle.judge.proofs.Exchange.{root-valid}
 
 each-at : {C : Type 0} (P : C → Type 0) (l : List C) → Each P l → (d : C) → List·Memᴰ d l → P d
 each-at P [] e d m = absurd (List·Memᴰ·not-nil m)
@@ -27,6 +30,48 @@ each-at P (x ∷ l) e d m = go (List·Memᴰ·cases-cons m) (λ n. each-at P l (
     go : (d ≡ x) ⊎ List·Memᴰ d l → (List·Memᴰ d l → P d) → P d
     go (inl q) rest = subst P (sym q) (e .0)
     go (inr n) rest = rest n
+
+all-each : {C : Type 0} (P : C → Type 0) (l : List C) → ((d : C) → List·Memᴰ d l → P d) → Each P l
+all-each P [] h = tt
+all-each P (x ∷ l) h = (h x (List·Memᴰ·head refl), all-each P l (λ d m. h d (List·Memᴰ·tail m)))
+
+-- ---- what is needed can be come to
+
+mem-append : {C : Type 0} (l m : List C) (d : C) → List·Memᴰ d (l ++ m) → List·Memᴰ d l ⊎ List·Memᴰ d m
+mem-append [] m d n = inr n
+mem-append (x ∷ l) m d n = go (List·Memᴰ·cases-cons n) (mem-append l m d)
+  where
+    go : (d ≡ x) ⊎ List·Memᴰ d (l ++ m) → (List·Memᴰ d (l ++ m) → List·Memᴰ d l ⊎ List·Memᴰ d m) → List·Memᴰ d (x ∷ l) ⊎ List·Memᴰ d m
+    go (inl e) rest = inl (List·Memᴰ·head e)
+    go (inr n) rest = deeper (rest n)
+      where
+        deeper : List·Memᴰ d l ⊎ List·Memᴰ d m → List·Memᴰ d (x ∷ l) ⊎ List·Memᴰ d m
+        deeper (inl k) = inl (List·Memᴰ·tail k)
+        deeper (inr k) = inr k
+
+module _ {C : Type 0} (k : Connective) (v : C → Bool) (n : C → List C) where
+  -- a cell needed for the entries looked at is needed for one of them
+  looked-mem : (l : List C) (d : C) → List·Memᴰ d (looked k v n l) → (e : C) × List·Memᴰ e l × List·Memᴰ d (n e)
+  unfolding looked
+  looked-mem [] d m = absurd (List·Memᴰ·not-nil m)
+  looked-mem (x ∷ l) d m = go (mem-append (n x) (elim (decides k (v x)) [ true ↦ [] | false ↦ looked k v n l ]) d m) (looked-mem l d)
+    where
+      later : (b : Bool) → List·Memᴰ d (elim b as (λ b. List C) [ true ↦ [] | false ↦ looked k v n l ]) → List·Memᴰ d (looked k v n l)
+      later true m = absurd (List·Memᴰ·not-nil m)
+      later false m = m
+
+      go : List·Memᴰ d (n x) ⊎ List·Memᴰ d (elim (decides k (v x)) as (λ b. List C) [ true ↦ [] | false ↦ looked k v n l ]) → (List·Memᴰ d (looked k v n l) → (e : C) × List·Memᴰ e l × List·Memᴰ d (n e)) → (e : C) × List·Memᴰ e (x ∷ l) × List·Memᴰ d (n e)
+      go (inl m) rest = (x, List·Memᴰ·head refl, m)
+      go (inr m) rest = let r = rest (later (decides k (v x)) m) in (r .0, List·Memᴰ·tail (r .1), r .2)
+
+need-reached : {C : Type 0} (R : C → Row C) (f : ℕ) (c d : C) → List·Memᴰ d (need R f c) → Reachable (λ e. R e .entries) c d
+unfolding need
+need-reached R zero c d m = absurd (List·Memᴰ·not-nil m)
+need-reached R (suc f) c d m = go (List·Memᴰ·cases-cons m) (λ e. need-reached R f e d)
+  where
+    go : (d ≡ c) ⊎ List·Memᴰ d (looked (R c .connective) (λ e. value R f e) (λ e. need R f e) (R c .entries)) → ((e : _) → List·Memᴰ d (need R f e) → Reachable (λ e. R e .entries) e d) → Reachable (λ e. R e .entries) c d
+    go (inl e) rest = inl e
+    go (inr n) rest = let r = looked-mem (R c .connective) (λ e. value R f e) (λ e. need R f e) (R c .entries) d n in inr (onward (r .1) (rest (r .0) (r .2)))
 
 -- along a chain of rows the rank falls
 module _ {C : Type 0} (rows : C → Row C) {Counts : C → Type 0} {rank : C → ℕ} (fall : Falling rows Counts rank) where
@@ -40,27 +85,49 @@ module _ {C : Type 0} (rows : C → Row C) {Counts : C → Type 0} {rank : C →
       let g = way-falls (h .0) w in
       (g .0, omega (arith, h .1, g .1))
 
-module _ (s : List ℕ) (accepted : sheetCheck s ≡ Passed) (none : NoLoop s) where
+comes-on : (R : Cell → Row Cell) (c d e : Cell) → ComesTo R c d → List·Memᴰ e (R d .entries) → ComesTo R c e
+comes-on R c d e (inl q) m = inr (last (subst (λ (x : Cell). List·Memᴰ e (R x .entries)) q m))
+comes-on R c d e (inr w) m = inr (way-on w m)
+
+module _ (s : List ℕ) (accepted : sheetCheck s ≡ Passed) where
   abbrev Counted : Cell → Type 0
   Counted = Valid (planBody s) (actionsBody s) (ruleBody s)
 
-  valid : (c : Cell) → CellOf (planBody s) (ruleBody s) c → Counted c
-  valid c d = counted s accepted c d (acyclic-settled (planBody s) (bodies s accepted .plan-kept) none (c .state) (d .state-below))
+  valid : (c : Cell) → LoopFreeCell s c → Counted c
+  valid c q = counted s accepted c (q .of-sheet) (free-exactly (planBody s) (bodies s accepted .plan-kept) (c .state) (q .of-sheet .state-below) .1 (q .no-loop))
 
-  enough-for : (c : Cell) → CellOf (planBody s) (ruleBody s) c → rank (planBody s) (ruleBody s) c < enough
-  enough-for c d = rank-enough (bodies s accepted) c (valid c d)
+  free : (c : Cell) → Counted c → LoopFreeCell s c
+  free c v = record { of-sheet = uncounted s accepted c v; no-loop = free-exactly (planBody s) (bodies s accepted .plan-kept) (c .state) (v .state-below) .0 (v .state-settled) }
 
-  -- rows along which the rank falls
-  one : (R : Cell → Row Cell) → Falling R Counted (rank (planBody s) (ruleBody s)) → OneSolution s R
-  one R falls = record {
-    no-return = λ c d w. absurd (omega (arith, way-falls R falls (valid c d) w .1));
-    is-solution = record { row = λ c d. value-row R falls enough c (valid c d) (enough-for c d) };
-    only-solution = λ v solution c d. value-unique R falls v (λ e w. solution .row e (uncounted s accepted e w)) enough c (valid c d) (enough-for c d);
-    need-is = λ c d. need-row R falls enough c (valid c d) (enough-for c d);
-  }
+  -- rows along which the rank falls, and a cell that counts
+  module _ (R : Cell → Row Cell) (falls : Falling R Counted (rank (planBody s) (ruleBody s))) (c : Cell) (q : LoopFreeCell s c) where
+    comes : (d : Cell) → ComesTo R c d → Counted d
+    comes d (inl e) = subst Counted (sym e) (valid c q)
+    comes d (inr w) = way-falls R falls (valid c q) w .0
 
-  pub one-solution : RowsHaveOneSolution s
-  one-solution = record {
-    written = one (writtenRows s) (falling (bodies s accepted));
-    changed = λ t. one (changedRows s t) (changed-falling (indexOf (ruleBody s)) (writtenRows s) (falling (bodies s accepted)) t);
-  }
+    enough-for : (d : Cell) → ComesTo R c d → rank (planBody s) (ruleBody s) d < enough
+    enough-for d g = rank-enough (bodies s accepted) d (comes d g)
+
+    -- the rank falls among the cells that the rows lead to
+    among : Falling R (ComesTo R c) (rank (planBody s) (ruleBody s))
+    among = record {
+      falls = λ d g. all-each (λ e. ComesTo R c e × (rank (planBody s) (ruleBody s) e < rank (planBody s) (ruleBody s) d)) (R d .entries)
+          (λ e m. (comes-on R c d e g m, each-at (λ e. Counted e × (rank (planBody s) (ruleBody s) e < rank (planBody s) (ruleBody s) d)) (R d .entries) (falls .falls d (comes d g)) e m .1));
+    }
+
+    one : OneSolution s R c
+    one = record {
+      stays = λ d g. free d (comes d g);
+      no-return = λ d g w. absurd (omega (arith, way-falls R falls (comes d g) w .1));
+      is-solution = record { row = λ d g. value-row R among enough d g (enough-for d g) };
+      only-solution = λ v solution d g. value-unique R among v (λ e h. solution .row e h) enough d g (enough-for d g);
+      need-is = λ d g. need-row R among enough d g (enough-for d g);
+      need-among = λ d m. need-reached R enough c d m;
+    }
+
+pub one-solution : RowsHaveOneSolution
+one-solution = record {
+  queried = λ s accepted state h none. free s accepted (cell 0 0 state) (root-valid (bodies s accepted) state h (free-exactly (planBody s) (bodies s accepted .plan-kept) state h .1 none));
+  written = λ s accepted. one s accepted (writtenRows s) (falling (bodies s accepted));
+  changed = λ s accepted t. one s accepted (changedRows s t) (changed-falling (indexOf (ruleBody s)) (writtenRows s) (falling (bodies s accepted)) t);
+}

@@ -84,7 +84,8 @@ module _ (p a r : List ℕ) where
   unfoldable pub rows : Cell → Row Cell
   rows c = rowOf c (nodeSort (nodeKind r (c .node)))
 
--- no chain of rows of an accepted sheet without loops is as long (`rank-enough` of proofs/Ranks.antt)
+-- of an accepted sheet, no chain of rows is as long that starts at a cell from whose state no loop can be reached (`rank-enough` of
+-- proofs/Ranks.antt)
 abbrev pub enough : ℕ
 enough = 131072
 

@@ -16,7 +16,7 @@ use Rattle.calculus.specs.Meeting.{meetingMask}
 use Rattle.judge.specs.Rows.{Connective, disjunction, conjunction}
 use Rattle.judge.specs.Tables.{Result, out, known, query}
 use Rattle.judge.specs.Solver.{walk}
-use Rattle.judge.specs.Loops.{settled}
+use Rattle.judge.specs.Loops.{Reachable, settled}
 use Rattle.judge.specs.Cells.{Cell, MarkRight, following, rows, enough, indexOf, cellAt, marks, successors}
 use Rattle.judge.specs.Clearing.{sizeOf}
 
@@ -24,20 +24,25 @@ use Rattle.judge.specs.Clearing.{sizeOf}
 unfoldable pub firstFrom : List ℕ → ℕ → ℕ
 firstFrom p s = lowest (λ i. leb s (origin p i)) (transitionCount p)
 
--- Numbers worked out once for a query: where the rule lies, how many nodes and marks there are, the binders' nodes, where each state's transitions
--- begin, and which formulas each action that occurs meets.
-pub record Prepared (s index : List ℕ) : Type 0 where
+-- what the index says of a state: where its transitions begin and end, and which formulas each of their actions meets
+pub record PreparedState (s index : List ℕ) (u : ℕ) : Type 0 where
+  pub begins : getD index (16 + u) 0 ≡ firstFrom (planBody s) u
+  pub ends : getD index (17 + u) 0 ≡ firstFrom (planBody s) (u + 1)
+  pub masks-are : (i : ℕ) → firstFrom (planBody s) u ≤ i → i < firstFrom (planBody s) (u + 1) → getD index (160 + label (planBody s) i) 0 ≡ meetingMask (actionCount (planBody s)) (actionsBody s) (label (planBody s) i)
+
+-- Numbers worked out once for a query of a state: where the rule lies, how many nodes and marks there are, the binders' nodes, and what is said above of each
+-- state that can be reached.
+pub record Prepared (s index : List ℕ) (state : ℕ) : Type 0 where
   pub offset-is : getD index 0 0 ≡ ruleOffset s
   pub nodes-are : getD index 1 0 ≡ nodeCount (ruleBody s)
   pub marks-are : getD index 2 0 ≡ marks (ruleBody s)
   pub binders-are : (k : ℕ) → k < 6 → getD index (3 + k) 0 ≡ binderNode (ruleBody s) k
-  pub firsts-are : (state : ℕ) → state ≤ stateCount (planBody s) → getD index (16 + state) 0 ≡ firstFrom (planBody s) state
-  pub masks-are : (i : ℕ) → i < transitionCount (planBody s) → getD index (160 + label (planBody s) i) 0 ≡ meetingMask (actionCount (planBody s)) (actionsBody s) (label (planBody s) i)
+  pub states-are : (u : ℕ) → Reachable (successors (planBody s)) state u → PreparedState s index u
 
 -- a cell of an accepted sheet, at a state from which no loop can be reached, with what is prepared and a table that has all cells
 pub record Decidable (s index t : List ℕ) (c : Cell) : Type 0 where
   pub accepted : sheetCheck s ≡ Passed
-  pub prepared : Prepared s index
+  pub prepared : Prepared s index (c .state)
   pub room : sizeOf s ≤ length t
   pub node-below : c .node < nodeCount (ruleBody s)
   pub state-below : c .state < stateCount (planBody s)
@@ -47,7 +52,7 @@ pub record Decidable (s index t : List ℕ) (c : Cell) : Type 0 where
 -- a "some" or "every" node at such a state
 pub record Following (s index t : List ℕ) (n state : ℕ) : Type 0 where
   pub accepted : sheetCheck s ≡ Passed
-  pub prepared : Prepared s index
+  pub prepared : Prepared s index state
   pub room : sizeOf s ≤ length t
   pub node-below : n < nodeCount (ruleBody s)
   pub state-below : state < stateCount (planBody s)

@@ -6,7 +6,7 @@ use mathlib.Core.List.{List, [], _∷_}
 use Rattle.calculus.specs.Exchange.{exchanged}
 use Rattle.calculus.specs.Guard.{guardedRule}
 use Rattle.judge.specs.Clearing.{clearedOf, tableCleared, reportedClear, clearReportOf}
-use Rattle.judge.specs.Querying.{NoLoop, queriedOf, tableQueried, QueryReport, reportedQuery, queryReportOf}
+use Rattle.judge.specs.Querying.{queriedOf, tableQueried, QueryReport, reportedQuery, queryReportOf}
 use Rattle.judge.specs.Demand3.{reports, tableAfter, SameAnswers, Demand3}
 use Rattle.judge.specs.declared.Cleared.{Cleared}
 use Rattle.judge.specs.declared.Queried.{Queried}
@@ -32,6 +32,6 @@ pub record Delivered (s t states : List ℕ) (answers : List QueryReport) (v : L
   -- "the exchanged sheet has a table of its own, just cleared for it, and gets the same list": the calls that run on it give the same answers
   pub exchange : guardedRule s ≡ true → (choice : ℕ → Bool) (t′ u′ v′ : List ℕ) (r′ : Cleared) (answers′ : List QueryReport) → Clears (exchanged choice s) t′ r′ u′ → reportedClear r′ .number ≡ 0 → Calls (exchanged choice s) u′ states answers′ v′ → SameAnswers answers answers′
 
--- every sheet without loop, every buffer on which `clear` gave number 0, every list of calls
+-- every sheet, loops included, every buffer on which `clear` gave number 0, every list of calls
 abbrev pub DeliveredThree : Type 0
-DeliveredThree = (s t states : List ℕ) (r : Cleared) (u : List ℕ) (answers : List QueryReport) (v : List ℕ) → Clears s t r u → reportedClear r .number ≡ 0 → NoLoop s → Calls s u states answers v → Delivered s t states answers v
+DeliveredThree = (s t states : List ℕ) (r : Cleared) (u : List ℕ) (answers : List QueryReport) (v : List ℕ) → Clears s t r u → reportedClear r .number ≡ 0 → Calls s u states answers v → Delivered s t states answers v

@@ -1,12 +1,12 @@
 -- Demand 3: one statement about whole lists of queries, over what clearing and query answer and leave (specs/Clearing.antt, specs/Querying.antt).
--- Document 01, "Lists of queries".
+-- Document 01, "Lists of queries", and document 02 (b).
 use Prim.Native.Nat.{ℕ, _+_, _*_, _<_, _≤_}
 use mathlib.Core.Path.{_≡_}
 use mathlib.Core.Bool.{Bool, true, false}
 use mathlib.Core.List.{List, [], _∷_}
-use mathlib.Core.Logic.{_↔_}
+use mathlib.Core.Logic.{_⊎_, _↔_, _≢_}
 use lib.ListN.{length}
-use lib.Dec.{ltb}
+use lib.Dec.{eqb}
 use Rattle.sheet.specs.Bytes.{pick}
 use Rattle.sheet.specs.Contents.{planBody, actionsBody, ruleBody}
 use Rattle.sheet.specs.Plan.{stateCount}
@@ -17,10 +17,11 @@ use Rattle.calculus.specs.Verdict.{Verdict}
 use Rattle.calculus.specs.Exchange.{exchanged}
 use Rattle.calculus.specs.Guard.{guardedRule}
 use Rattle.judge.specs.Rows.{value}
+use Rattle.judge.specs.Loops.{LoopReachable}
 use Rattle.judge.specs.Tables.{byteAt, filled, byteOf, count, neededFor}
-use Rattle.judge.specs.Cells.{Cell, cell, rows, enough, indexOf, cellAt}
+use Rattle.judge.specs.Cells.{Cell, cell, rows, enough, indexOf, cellAt, successors}
 use Rattle.judge.specs.Clearing.{sizeOf, tableCleared, clearReportOf}
-use Rattle.judge.specs.Querying.{NoLoop, QueryReport, reportedQuery, queriedOf, tableQueried}
+use Rattle.judge.specs.Querying.{QueryReport, reportedQuery, queriedOf, tableQueried}
 
 -- "A list is any number of queries, of states below S or not, with one sheet and one table": what each reports, the table handed on from query to query
 unfoldable pub reports : List ℕ → List ℕ → List ℕ → List QueryReport
@@ -51,10 +52,15 @@ unfoldable pub visitsOf : List QueryReport → ℕ
 visitsOf [] = 0
 visitsOf (q ∷ qs) = q .visits + visitsOf qs
 
--- (0, 0, s) for each queried state s that the plan has
-unfoldable pub queriedCells : ℕ → List ℕ → List Cell
-queriedCells S [] = []
-queriedCells S (state ∷ states) = pick (ltb state S) (cell 0 0 state ∷ queriedCells S states) (queriedCells S states)
+-- (0, 0, s) for each state s of a query that was not refused
+unfoldable pub queriedCells : List ℕ → List QueryReport → List Cell
+queriedCells [] qs = []
+queriedCells (state ∷ states) [] = []
+queriedCells (state ∷ states) (q ∷ qs) = pick (eqb (q .number) 0) (cell 0 0 state ∷ queriedCells states qs) (queriedCells states qs)
+
+-- Document 02 (b): "a state that the plan doesn't have or from which a loop can be reached"
+abbrev pub RefusedState : List ℕ → ℕ → Type 0
+RefusedState s state = (stateCount (planBody s) ≤ state) ⊎ LoopReachable (successors (planBody s)) state
 
 -- "The table is just cleared when clearing gave number 0 on it with that sheet"
 abbrev pub JustCleared : List ℕ → List ℕ → Type 0
@@ -64,21 +70,22 @@ JustCleared s t = clearReportOf s t .number ≡ 0
 -- gets the same list."
 pub record Exchange (s states : List ℕ) (answers : List QueryReport) (choice : ℕ → Bool) : Type 0 where
   pub accepted : sheetCheck (exchanged choice s) ≡ Passed
-  -- Table 1's verdict is unchanged
-  pub same-verdicts : (state : ℕ) → Verdict s state ↔ Verdict (exchanged choice s) state
-  -- and so are the queries' answers
+  -- Table 1's verdict is unchanged at every state whose queries are not refused
+  pub same-verdicts : (state : ℕ) → (RefusedState s state → ⊥) → (Verdict s state ↔ Verdict (exchanged choice s) state)
+  -- the same queries are refused, and the others have the same verdicts
   pub same-answers : (u : List ℕ) → JustCleared (exchanged choice s) u → SameAnswers answers (reports (exchanged choice s) (tableCleared (exchanged choice s) u) states)
 
 -- A sheet s, a lent buffer t just cleared for it, and a list of states. t is the buffer as lent; the cleared table is tableCleared s t.
 pub record Demand3 (s t states : List ℕ) : Type 0 where
-  -- "A query is refused when its number isn't 0": refused are exactly the queries of a state that the plan doesn't have
-  pub refusals : Reported (λ state q. (q .number ≡ 0) ↔ (state < stateCount (planBody s))) states (reports s (tableCleared s t) states)
-  -- the verdict is Table 1's, on the rule as written; a refused query's is false, and its state is in no meaning
-  pub verdicts : Reported (λ state q. (q .verdict ≡ true) ↔ Verdict s state) states (reports s (tableCleared s t) states)
+  -- "A query is refused when its number isn't 0." Document 02 (b): "refused are exactly the queries of a state that the plan doesn't have
+  -- or from which a loop can be reached, and the rest of it stands for the queries not refused"
+  pub refusals : Reported (λ state q. (q .number ≢ 0) ↔ RefusedState s state) states (reports s (tableCleared s t) states)
+  -- the verdict of a query not refused is Table 1's, on the rule as written
+  pub verdicts : Reported (λ state q. q .number ≡ 0 → ((q .verdict ≡ true) ↔ Verdict s state)) states (reports s (tableCleared s t) states)
   -- in a guarded rule fixed points can be exchanged
   pub exchange : guardedRule s ≡ true → (choice : ℕ → Bool) → Exchange s states (reports s (tableCleared s t) states) choice
   -- filled are exactly the cells "needed for (0, 0, s), s the state of at least one of" the queries not refused, by the rows as written
-  pub cells : (i : ℕ) → i < sizeOf s → filled (byteAt (tableAfter s (tableCleared s t) states) i) ≡ neededFor (indexOf (ruleBody s)) (rows (planBody s) (actionsBody s) (ruleBody s)) enough (queriedCells (stateCount (planBody s)) states) i
+  pub cells : (i : ℕ) → i < sizeOf s → filled (byteAt (tableAfter s (tableCleared s t) states) i) ≡ neededFor (indexOf (ruleBody s)) (rows (planBody s) (actionsBody s) (ruleBody s)) enough (queriedCells states (reports s (tableCleared s t) states)) i
   -- each with its solution
   pub solved : (i : ℕ) → i < sizeOf s → filled (byteAt (tableAfter s (tableCleared s t) states) i) ≡ true → byteAt (tableAfter s (tableCleared s t) states) i ≡ byteOf (value (rows (planBody s) (actionsBody s) (ruleBody s)) enough (cellAt (ruleBody s) i))
   -- every other cell is empty
@@ -95,5 +102,5 @@ pub record Demand3 (s t states : List ℕ) : Type 0 where
 pub record DemandThree : Type 0 where
   -- "as it does for an accepted sheet on every buffer long enough"
   pub clears : (s t : List ℕ) → sheetCheck s ≡ Passed → sizeOf s ≤ length t → JustCleared s t
-  -- every sheet without loop, every table just cleared for it, every list of states
-  pub lists : (s t states : List ℕ) → JustCleared s t → NoLoop s → Demand3 s t states
+  -- Document 02 (b): "every accepted sheet, loops included", every table just cleared for it, every list of states
+  pub lists : (s t states : List ℕ) → JustCleared s t → Demand3 s t states

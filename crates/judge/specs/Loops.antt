@@ -1,6 +1,9 @@
--- Ways and loops, as document 01 has them under "Lists of queries". What follows s in one step is `next s`.
+-- Ways and loops, as document 01 has them under "Lists of queries", and what can be reached, as document 02 (b) has it. What follows s in
+-- one step is `next s`.
 use mathlib.Core.Bool.{Bool, true, false, _&&_}
 use mathlib.Core.List.{List, [], _∷_, List·Memᴰ}
+use mathlib.Core.Logic.{_⊎_}
+use mathlib.Core.Path.{_≡_}
 use Prim.Native.Nat.{ℕ, zero, suc}
 
 -- a test passed by every state of a list
@@ -13,12 +16,21 @@ pub data Way {C : Type 0} (next : C → List C) : C → C → Type 0 where
   last : {s t : C} → List·Memᴰ t (next s) → Way next s t
   first : {s u t : C} → List·Memᴰ u (next s) → Way next u t → Way next s t
 
+-- t "can be reached from" s: it is s, or a way leads there from s
+abbrev pub Reachable : {C : Type 0} → (C → List C) → C → C → Type 0
+Reachable next s t = (t ≡ s) ⊎ Way next s t
+
 module _ (next : ℕ → List ℕ) where
   -- "A loop is a way of one or more transitions from a state back to it."
   abbrev pub Loop : ℕ → Type 0
   Loop s = Way next s s
 
-  -- round 0 settles no state; round r + 1 settles a state whose every successor is settled in round r
+  -- Document 02 (b): "a loop can be reached from" s: s lies on one, or a way leads from s to a state that does
+  abbrev pub LoopReachable : ℕ → Type 0
+  LoopReachable s = (t : ℕ) × Reachable next s t × Loop t
+
+  -- The test behind 12; what it tells is in `TwelveExactly` of specs/Querying.antt. Round 0 settles no state; round r + 1 settles a state
+  -- whose every successor is settled in round r
   unfoldable pub settled : ℕ → ℕ → Bool
   settled zero s = false
   settled (suc r) s = every (λ t. settled r t) (next s)

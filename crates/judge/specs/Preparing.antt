@@ -1,14 +1,13 @@
 -- What each step of preparing a query leaves in the index. Each fills places from one on, and keeps those before it.
-use Prim.Native.Nat.{ℕ, _+_, _<_, _≤_}
+use Prim.Native.Nat.{ℕ, _+_, _<_}
 use mathlib.Core.Path.{_≡_}
 use mathlib.Core.List.{List}
 use lib.ListN.{length, getD}
 use Rattle.sheet.specs.Contents.{ruleBody, ruleOffset}
-use Rattle.sheet.specs.Plan.{stateCount, actionCount, transitionCount, origin, label}
+use Rattle.sheet.specs.Plan.{actionCount}
 use Rattle.sheet.specs.Rule.{nodeCount, binderNode}
 use Rattle.calculus.specs.Meeting.{meetingMask}
 use Rattle.judge.specs.Cells.{marks}
-use Rattle.judge.specs.Deciding.{firstFrom}
 
 -- the places before one are as they were
 abbrev pub SameBefore : ℕ → List ℕ → List ℕ → Type 0
@@ -25,22 +24,9 @@ pub record Binders (r old new : List ℕ) : Type 0 where
   pub same : SameBefore 3 old new
   pub filled : (k : ℕ) → k < 6 → getD new (3 + k) 0 ≡ binderNode r k
 
--- the transitions before one are of states before one
-pub record AllBefore (p : List ℕ) (state at : ℕ) : Type 0 where
-  pub among : at ≤ transitionCount p
-  pub earlier : (i : ℕ) → i < at → origin p i < state
-
-pub record Firsts (p old new : List ℕ) : Type 0 where
-  pub size : length new ≡ 416
-  pub same : SameBefore 16 old new
-  pub filled : (state : ℕ) → state ≤ stateCount p → getD new (16 + state) 0 ≡ firstFrom p state
-
--- a 1 for each action that occurs
-pub record Used (p used : List ℕ) : Type 0 where
-  pub size : length used ≡ 256
-  pub occurs : (i : ℕ) → i < transitionCount p → (label p i < 256) × (getD used (label p i) 0 ≡ 1)
-
+-- a mask in place of the 1 of each action
 pub record Masks (p a old new : List ℕ) : Type 0 where
   pub size : length new ≡ 416
   pub same : SameBefore 160 old new
-  pub filled : (i : ℕ) → i < transitionCount p → getD new (160 + label p i) 0 ≡ meetingMask (actionCount p) a (label p i)
+  pub filled :
+      (action : ℕ) → action < actionCount p → getD old (160 + action) 0 ≡ 1 → getD new (160 + action) 0 ≡ meetingMask (actionCount p) a action

@@ -2,7 +2,7 @@
 use Prim.Native.Nat.{ℕ, _<_}
 use mathlib.Core.Path.{_≡_}
 use mathlib.Core.Logic.{_↔_}
-use mathlib.Core.Bool.{Bool, false, not}
+use mathlib.Core.Bool.{Bool, false}
 use mathlib.Core.List.{List}
 use lib.ListN.{length}
 use lib.Dec.{eqb, ltb, leb}
@@ -14,25 +14,17 @@ use Rattle.sheet.specs.Reading.{sheetCheck}
 use Rattle.sheet.specs.declared.Refusal.the-variants.{NoSuchState, Loop as LoopRefusal, TableShort, TableByte}
 use Rattle.sheet.specs.declared.Check.{Check}
 use Rattle.sheet.specs.declared.Check.the-variants.{Passed, Failed}
-use Rattle.judge.specs.Loops.{settled, Loop}
+use Rattle.judge.specs.Loops.{settled, LoopReachable}
 use Rattle.judge.specs.Tables.{byteAt, Result, verdict, visits, table, query}
 use Rattle.judge.specs.Cells.{cell, rows, enough, indexOf, cellAt, successors}
 use Rattle.judge.specs.Clearing.{sizeOf}
 use Rattle.judge.specs.declared.Queried.{Queried}
 use Rattle.judge.specs.declared.Queried.the-variants.{Judged, Refused}
 
--- "A loop is a way of one or more transitions from a state back to it."
-abbrev pub NoLoop : List ℕ → Type 0
-NoLoop s = (state : ℕ) → state < stateCount (planBody s) → Loop (successors (planBody s)) state → ⊥
-
--- "the plan has a loop"
-abbrev pub HasLoop : List ℕ → Type 0
-HasLoop s = (state : ℕ) × (state < stateCount (planBody s)) × Loop (successors (planBody s)) state
-
--- "12: the plan has a loop", as a test: some state is not settled after S rounds. That the test fails exactly where there is a loop is `twelve-exactly` of
--- proofs/Twelve.antt
-unfoldable pub loopless : List ℕ → Bool
-loopless p = eqb (lowest (λ s. not (settled (successors p) (stateCount p) s)) (stateCount p)) (stateCount p)
+-- the test behind 12: the state is settled after S rounds. Of an accepted sheet, at a state that it has, it fails exactly where a loop
+-- can be reached (`free-exactly` of proofs/LoopFree.antt)
+abbrev pub loopFree : List ℕ → ℕ → Bool
+loopFree p state = settled (successors p) (stateCount p) state
 
 -- "21: a table byte over 2": the cells alone are looked at
 unfoldable pub bytesRight : ℕ → List ℕ → Bool
@@ -43,7 +35,7 @@ unfoldable pub queryCheck : List ℕ → ℕ → List ℕ → Check
 queryCheck s state t =
     andThen (sheetCheck s)
     (andThen (require (ltb state (stateCount (planBody s))) NoSuchState)
-    (andThen (require (loopless (planBody s)) LoopRefusal)
+    (andThen (require (loopFree (planBody s) state) LoopRefusal)
     (andThen (require (leb (sizeOf s) (length t)) TableShort) (require (bytesRight (sizeOf s) t) TableByte))))
 
 -- the query of a sheet at (0, 0, state): verdict, visits and the table that it leaves
@@ -89,6 +81,10 @@ reportQuery r (Failed x) = record { number = numberOf x; place = placeOf x; verd
 unfoldable pub queryReportOf : List ℕ → ℕ → List ℕ → QueryReport
 queryReportOf s state t = reportQuery (resultOf s state t) (queryCheck s state t)
 
--- "12: the plan has a loop (query only)": 12 comes exactly for an accepted sheet, queried at a state that it has, whose plan has a loop
+-- Document 02 (b): "A query now gives 12 exactly when a loop can be reached from the queried state (12 coming in its order)": after 1 to
+-- 10, so the sheet is accepted; after 11, so the plan has the state; before 20 and 21, whatever the table
 abbrev pub TwelveExactly : Type 0
-TwelveExactly = (s : List ℕ) (state : ℕ) (t : List ℕ) → (queryReportOf s state t .number ≡ 12) ↔ ((sheetCheck s ≡ Passed) × (state < stateCount (planBody s)) × HasLoop s)
+TwelveExactly =
+    (s : List ℕ) (state : ℕ) (t : List ℕ)
+    → (queryReportOf s state t .number ≡ 12)
+    ↔ ((sheetCheck s ≡ Passed) × (state < stateCount (planBody s)) × LoopReachable (successors (planBody s)) state)

@@ -38,7 +38,8 @@ module _ {C : Type 0} (rows : C → Row C) where
   pub record Solution (Counts : C → Type 0) (v : C → Bool) : Type 0 where
     pub row : (c : C) → Counts c → v c ≡ joined (rows c .connective) v (rows c .entries)
 
-  -- the solution, by following chains of at most f rows; with f large enough it is the rows' one solution (OneSolution of specs/Solutions.antt)
+  -- the solution, by following chains of at most f rows; where no chain returns and f is large enough, it is the rows' one solution (OneSolution of
+  -- specs/Solutions.antt)
   unfoldable pub value : ℕ → C → Bool
   value zero c = false
   value (suc f) c = joined (rows c .connective) (λ d. value f d) (rows c .entries)

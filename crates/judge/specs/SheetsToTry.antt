@@ -52,11 +52,19 @@ least-loop = withTrue selfLoop (3 ∷ 7 ∷ 0 ∷ 1 ∷ 5 ∷ 0 ∷ 2 ∷ 6 ∷ 
 abbrev pub greatest-loop : List ℕ
 greatest-loop = withTrue selfLoop (3 ∷ 8 ∷ 0 ∷ 1 ∷ 5 ∷ 0 ∷ 2 ∷ 6 ∷ 0 ∷ 0 ∷ [])
 
+-- "every" with true over F, on a plan of 5 states: 0 has a transition to itself and one to 1, 1 leads to 4, 2 to 3, and 3 to itself
+abbrev pub loops-elsewhere : List ℕ
+loops-elsewhere = withTrue (5 ∷ 1 ∷ 5 ∷ 0 ∷ 0 ∷ 0 ∷ 0 ∷ 0 ∷ 0 ∷ 1 ∷ 1 ∷ 0 ∷ 4 ∷ 2 ∷ 0 ∷ 3 ∷ 3 ∷ 0 ∷ 3 ∷ []) (2 ∷ 5 ∷ 0 ∷ 1 ∷ 0 ∷ 0 ∷ 0 ∷ [])
+
 -- ---- what is said of them
 
 -- a query that is not refused reports number 0 and place 0, a verdict and visits
 abbrev pub judged : Bool → ℕ → QueryReport
 judged verdict visits = record { number = 0; place = 0; verdict = verdict; visits = visits }
+
+-- a query that is refused, by a number that has no place
+abbrev pub refusedBy : ℕ → QueryReport
+refusedBy number = record { number = number; place = 0; verdict = false; visits = 0 }
 
 -- the queries of the states, one after the other, on each cleared table of exactly this many bytes, the fewest that the sheet takes, report this
 abbrev pub Asked : List ℕ → ℕ → List ℕ → List QueryReport → Type 0
@@ -66,7 +74,7 @@ Asked s size states answers = (t : List ℕ) → length t ≡ size → reports s
 pub record Word (s : List ℕ) (word : ℕ) : Type 0 where
   pub bits : (state : ℕ) → (bit word state ≡ true) ↔ Verdict s state
 
--- P1 to P11
+-- P1 to P11, and a sheet for document 02 (b)
 pub record SheetsToTry : Type 0 where
   -- "The key sheet K has 74 bytes"
   pub key-length : length K ≡ 74
@@ -93,5 +101,8 @@ pub record SheetsToTry : Type 0 where
   -- "P11: .. least X of "every" true X: reference 0; greatest: 1. A query: 12.", whatever the table
   pub p11-least : Word least-loop 0
   pub p11-greatest : Word greatest-loop 1
-  pub p11-query : (t : List ℕ) → reportedQuery (queriedOf least-loop 0 t) ≡ record { number = 12; place = 0; verdict = false; visits = 0 }
-  pub p11-query-greatest : (t : List ℕ) → reportedQuery (queriedOf greatest-loop 0 t) ≡ record { number = 12; place = 0; verdict = false; visits = 0 }
+  pub p11-query : (t : List ℕ) → reportedQuery (queriedOf least-loop 0 t) ≡ refusedBy 12
+  pub p11-query-greatest : (t : List ℕ) → reportedQuery (queriedOf greatest-loop 0 t) ≡ refusedBy 12
+  -- Document 02 (b), a sheet of our own: refused are the states on a loop, the state that leads to one, and the one that the plan doesn't
+  -- have. The loops that no step leads to from 1 and 4 refuse neither, the one that leads to 1 included
+  pub b-loops : Asked loops-elsewhere 10 (0 ∷ 1 ∷ 2 ∷ 3 ∷ 4 ∷ 1 ∷ 5 ∷ []) (refusedBy 12 ∷ judged false 2 ∷ refusedBy 12 ∷ refusedBy 12 ∷ judged true 1 ∷ judged false 0 ∷ refusedBy 11 ∷ [])

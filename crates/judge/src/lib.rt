@@ -1,10 +1,10 @@
 // The judge: rows of cells, clearing and query.
 pub mod clearing;
-mod cycles;
 mod deciding;
 mod fields;
 mod prepare;
 pub mod querying;
+mod searching;
 
 use sheet::Refusal;
 

@@ -1,7 +1,6 @@
 // A query: the verdict of a sheet at a state, with the cells that it needs filled in a lent table.
 use crate::Queried;
 use crate::clearing::cell_count;
-use crate::cycles::is_loopless;
 use crate::deciding::decide;
 use crate::fields::is_true;
 use crate::prepare::prepare;
@@ -62,8 +61,8 @@ fn judge(sheet: &[u8], state: State, table: &mut [u8]) -> Queried
     if state_count(plan) <= state.0 {
         return Queried::Refused(Refusal::NoSuchState);
     }
-    let index = prepare(sheet);
-    if !is_loopless(plan, &index) {
+    let mut index = [0; 416];
+    if !prepare(sheet, &mut index, state) {
         return Queried::Refused(Refusal::Loop);
     }
     let size = cell_count(sheet);

@@ -54,13 +54,14 @@ pub fn vectors(dir: &str) -> i32 {
     bad
 }
 
-/// On a plan without loops a query's verdict is Table 1's; visits add up to the cells filled; a second query fills none.
+/// A query is refused by 12 exactly at the states from which a loop can be reached; elsewhere its verdict is Table 1's.
+/// Visits add up to the cells filled; a second query fills none.
 pub fn selfcheck(seed: u64, count: u64) -> i32 {
-    let (mut done, mut yes) = (0u64, 0u64);
+    let (mut sheets, mut done, mut yes) = (0u64, 0u64, 0u64);
+    let mut loops = LoopTally::default();
     for i in 0..count {
         let mut r = Rng::new(seed, i);
-        let mut z = gen::any_size(&mut r);
-        z.loops = false;
+        let z = gen::any_size(&mut r);
         let sheet = gen::valid(&mut r, z).sheet();
         let p = match oracle::read(&sheet) {
             Ok(s) => s.parts,
@@ -74,25 +75,75 @@ pub fn selfcheck(seed: u64, count: u64) -> i32 {
             println!("seed {seed}, sheet {i}: the two reference judges differ");
             return 1;
         }
+        let before = oracle::before_loops(&p);
         let mut table = vec![0; p.table_len()];
-        let mut sum = 0;
+        let (mut sum, mut refused) = (0, 0);
         for s in 0..p.states as u8 {
-            let Ok((v, k)) = oracle::query(&sheet, s, &mut table) else { return 1 };
-            sum += k;
-            if v != (truth >> s & 1 == 1) || oracle::query(&sheet, s, &mut table) != Ok((v, 0)) {
+            let (found, again) = (oracle::query(&sheet, s, &mut table), oracle::query(&sheet, s, &mut table));
+            let good = match found {
+                Ok((v, k)) => {
+                    sum += k;
+                    done += 1;
+                    yes += u64::from(v);
+                    before >> s & 1 == 0 && v == (truth >> s & 1 == 1) && again == Ok((v, 0))
+                }
+                refusal => {
+                    refused += 1;
+                    before >> s & 1 == 1 && refusal == Err((12, 0)) && again == refusal
+                }
+            };
+            if !good {
                 println!("seed {seed}, sheet {i}, state {s}: the query differs from Table 1: {sheet:?}");
                 return 1;
             }
-            yes += u64::from(v);
-            done += 1;
         }
         if sum != table.iter().filter(|&&v| v != 0).count() {
             println!("seed {seed}, sheet {i}: visits are not the cells filled");
             return 1;
         }
+        sheets += 1;
+        if before != 0 {
+            loops.add(refused, p.states as u64 - refused);
+        }
     }
-    println!("seed {seed}: {count} sheets, {done} states agree with Table 1 ({yes} true)");
+    println!("seed {seed}: {sheets} sheets, {done} states agree with Table 1 ({yes} true)");
+    println!("  plans with a loop: {loops}");
     0
+}
+
+/// What was asked of plans with a loop.
+#[derive(Default)]
+struct LoopTally {
+    sheets: u64,
+    refused: u64,
+    judged: u64,
+    /// Sheets of which some queries were refused by 12 and others judged.
+    both: u64,
+}
+
+impl LoopTally {
+    fn add(&mut self, refused: u64, judged: u64) {
+        self.sheets += 1;
+        self.refused += refused;
+        self.judged += judged;
+        self.both += u64::from(refused > 0 && judged > 0);
+    }
+
+    fn count(&mut self, r: &Request, answer: &str) {
+        let (Request::List { sheet, .. } | Request::Query { sheet, .. }) = r else { return };
+        let Ok(ok) = oracle::read(sheet) else { return };
+        if oracle::before_loops(&ok.parts) != 0 {
+            let lines = |start: &str| answer.lines().filter(|l| l.starts_with(start)).count() as u64;
+            self.add(lines("query 12 "), lines("query 0 "));
+        }
+    }
+}
+
+impl std::fmt::Display for LoopTally {
+    fn fmt(&self, f: &mut std::fmt::Formatter) -> std::fmt::Result {
+        let LoopTally { sheets, refused, judged, both } = self;
+        write!(f, "{sheets} sheets; of their queries {refused} refused by 12 and {judged} judged; {both} sheets had both")
+    }
 }
 
 pub fn clip(b: &[u8]) -> String {
@@ -185,7 +236,7 @@ impl Turns {
         }
         self.made[kind] += 1;
         self.binders[n] += 1;
-        self.loops += u64::from(oracle::has_loop(&ok.parts, &oracle::successors(&ok.parts)));
+        self.loops += u64::from(oracle::before_loops(&ok.parts) != 0);
         self.guarded += u64::from(oracle::guarded(&ok.parts));
         if kind == 1 {
             self.telling[gen::telling(sheet)] += 1;
@@ -210,7 +261,7 @@ pub fn compare(trials: &str, seed: u64, count: u64, numbers: &[u8], shrinking: b
     println!("seed {seed}, {count} requests of the kinds {numbers:?}");
     let begun = Instant::now();
     let mut tally: std::collections::BTreeMap<(u8, String), u64> = Default::default();
-    let mut turns = Turns::default();
+    let (mut turns, mut loops) = (Turns::default(), LoopTally::default());
     let (mut done, mut differences, mut told) = (0u64, 0u64, 0);
     while done < count {
         let n = BATCH.min(count - done);
@@ -230,8 +281,9 @@ pub fn compare(trials: &str, seed: u64, count: u64, numbers: &[u8], shrinking: b
         for (k, r) in batch.iter().enumerate() {
             turns.count(r);
             let want = protocol::expected(r);
-            let first = String::from_utf8_lossy(&want);
-            let refusal = first.split([' ', '\n']).nth(1).unwrap_or("").to_string();
+            let text = String::from_utf8_lossy(&want);
+            loops.count(r, &text);
+            let refusal = text.split([' ', '\n']).nth(1).unwrap_or("").to_string();
             *tally.entry((r.number(), refusal)).or_default() += 1;
             // resynchronise by the number of lines
             let lines = want.iter().filter(|&&c| c == b'\n').count();
@@ -283,6 +335,7 @@ pub fn compare(trials: &str, seed: u64, count: u64, numbers: &[u8], shrinking: b
         line += &format!(" {refusal}:{n}");
     }
     println!("refusal numbers met (in a request's first line):{line}");
+    println!("lists and queries on plans with a loop: {loops}");
     println!("{turns}");
     println!("seed {seed}: {done} requests compared, {differences} differences, {:.1} s", begun.elapsed().as_secs_f64());
     i32::from(differences > 0)

@@ -77,6 +77,15 @@ impl Parts {
     }
 }
 
+/// Where a plan may have loops.
+#[derive(Clone, Copy, PartialEq)]
+pub enum Loops {
+    Nowhere,
+    /// Among some of its states, so that from others none may be reached.
+    Part,
+    Anywhere,
+}
+
 /// What a valid sheet is to be like.
 #[derive(Clone, Copy)]
 pub struct Size {
@@ -86,7 +95,7 @@ pub struct Size {
     pub entries: usize,
     pub nodes: usize,
     pub binders: usize,
-    pub loops: bool,
+    pub loops: Loops,
     pub guarded: bool,
 }
 
@@ -129,7 +138,12 @@ pub fn any_size(r: &mut Rng) -> Size {
         7 | 8 => r.range(1, 6),
         _ => 6,
     };
-    Size { states, actions, transitions, entries, nodes, binders, loops: r.chance(25), guarded: r.chance(40) }
+    let loops = match r.below(10) {
+        0..=4 => Loops::Nowhere,
+        5..=7 => Loops::Part,
+        _ => Loops::Anywhere,
+    };
+    Size { states, actions, transitions, entries, nodes, binders, loops, guarded: r.chance(40) }
 }
 
 /// A stretch of some of the `a` actions: any, of one action, from the first or to the last.
@@ -156,13 +170,26 @@ pub fn valid(r: &mut Rng, z: Size) -> Parts {
     }
     let near = r.chance(40);
     let mut transitions = Vec::new();
+    // the places in the order among which transitions may lead back
+    let mut part = if z.loops == Loops::Anywhere { 0..s } else { 0..0 };
+    if z.loops == Loops::Part && z.transitions > 0 && a > 0 {
+        let from = if r.chance(30) { 0 } else { r.below(s) };
+        part = from..(from + r.pick(&[1, 2, 3, 8, 128])).min(s);
+        // one loop for certain
+        let mut way: Vec<usize> = part.clone().collect();
+        r.shuffle(&mut way);
+        way.truncate(r.range(1, 4));
+        for (k, &i) in way.iter().enumerate() {
+            transitions.push([order[i], r.below(a) as u8, order[way[(k + 1) % way.len()]]]);
+        }
+    }
     if a > 0 {
-        for _ in 0..z.transitions {
+        for _ in transitions.len()..z.transitions {
             let (mut i, mut j) = (r.below(s), r.below(s));
             if near {
                 j = (i + r.range(1, 3)).min(s - 1);
             }
-            if !z.loops {
+            if !part.contains(&i) || !part.contains(&j) {
                 if i == j {
                     continue;
                 }
@@ -623,7 +650,7 @@ fn alternation(r: &mut Rng) -> Parts {
         entries: r.range(1, 8),
         nodes: 1,
         binders: 0,
-        loops: r.chance(70),
+        loops: if r.chance(70) { Loops::Anywhere } else { Loops::Nowhere },
         guarded: false,
     };
     let mut p = valid(r, size);
@@ -771,7 +798,14 @@ pub fn turns(p: &oracle::Parts) -> usize {
 fn sheet(r: &mut Rng, whole: usize) -> Vec<u8> {
     if r.chance(1) {
         let (s, n) = (r.pick(&[3, 10, 64, 128]), r.pick(&[20, 40, 64]));
-        return deep(r, s, n).sheet();
+        let mut p = deep(r, s, n);
+        if r.chance(50) {
+            // a loop on the chain
+            let i = r.below(s);
+            p.transitions.push([i as u8, 0, r.below(i + 1) as u8]);
+            p.transitions.sort();
+        }
+        return p.sheet();
     }
     if r.chance(whole) {
         let z = any_size(r);
@@ -792,7 +826,8 @@ fn sheet(r: &mut Rng, whole: usize) -> Vec<u8> {
         }
         92 => {
             // about the longest sheet, and just over
-            let z = Size { states: 128, actions: 255, transitions: 4000, entries: 32, nodes: 64, binders: 6, loops: r.chance(50), guarded: false };
+            let loops = r.pick(&[Loops::Nowhere, Loops::Nowhere, Loops::Part, Loops::Anywhere]);
+            let z = Size { states: 128, actions: 255, transitions: 4000, entries: 32, nodes: 64, binders: 6, loops, guarded: false };
             let mut p = valid(r, z);
             p.transitions.truncate(2048);
             let mut b = p.bodies();
@@ -840,16 +875,30 @@ fn table_len(sheet: &[u8]) -> usize {
     oracle::read(sheet).map_or(20, |s| s.parts.table_len())
 }
 
+/// The states from which a loop can be reached, and the others; none of a sheet that is refused.
+fn by_loops(sheet: &[u8]) -> [Vec<u8>; 2] {
+    let Ok(ok) = oracle::read(sheet) else { return [vec![], vec![]] };
+    let before = oracle::before_loops(&ok.parts);
+    [1, 0].map(|side| (0..ok.parts.states as u8).filter(|&s| before >> s & 1 == side).collect())
+}
+
 /// Work of the plain iteration above which a reference request is not made.
 const WORK: u64 = 60_000;
 
-/// Request number `index` of a seed. The first two are the deepest chain of cells that we know how to make.
+/// Request number `index` of a seed. The first two are the deepest chain of cells that we know how to make; the next two have
+/// its plan with a loop at the last state but one and at the last.
 pub fn request_at(seed: u64, index: u64, numbers: &[u8]) -> Request {
     let mut r = Rng::new(seed, index);
-    if index < 2 && numbers.contains(&(4 + index as u8)) {
-        let sheet = deep(&mut r, 128, 64).sheet();
+    if index < 4 && numbers.contains(&(4 + index as u8 % 2)) {
+        let mut p = deep(&mut r, 128, 64);
+        if index >= 2 {
+            let s = 124 + index as u8;
+            p.transitions.push([s, 0, s]);
+            p.transitions.sort();
+        }
+        let sheet = p.sheet();
         let len = table_len(&sheet);
-        return match index {
+        return match index % 2 {
             0 => Request::List { sheet, table_len: len as u16, fill: 7, states: vec![0, 127, 0] },
             _ => Request::Query { sheet, state: 0, table: vec![0; len] },
         };
@@ -897,6 +946,12 @@ fn request(r: &mut Rng, numbers: &[u8]) -> Request {
                 if r.chance(30) {
                     list.push(states as u8);
                     list.insert(0, 255);
+                }
+            }
+            if r.chance(50) {
+                for side in by_loops(&sheet).iter().filter(|v| !v.is_empty()) {
+                    let at = r.below(list.len() + 1);
+                    list.insert(at, r.pick(side));
                 }
             }
             let fill = if r.chance(40) { r.pick(&[0, 1, 2, 3, 255]) } else { r.byte() };

@@ -1,4 +1,4 @@
-//! Differential tests and a benchmark of the trial driver, against an implementation of documents 01 and 02 (a) of its own.
+//! Differential tests and a benchmark of the trial driver, against an implementation of documents 01 and 02 (a), (b) of its own.
 
 mod bench;
 mod compare;
@@ -11,7 +11,7 @@ use std::io::{Read, Write};
 const USAGE: &str = "usage:
   differential vectors DIR                  stored requests of DIR (NAME.stdin, NAME.stdout) against the oracle
   differential selfcheck [--seed N] [--count N]
-                                            the oracle's query against its own Table 1, on plans without loops
+                                            the oracle's query against its own Table 1, on plans with loops and without
   differential compare TRIALS [--seed N] [--count N] [--requests 1,2,3,4,5,6] [--no-shrink]
                                             made requests, the trial driver against the oracle
   differential bench TRIALS [--requests 1,2,3,4,5,6] [--out DIR]
@@ -39,7 +39,9 @@ fn serve() -> i32 {
     if std::io::stdin().lock().read_to_end(&mut input).is_err() {
         return 1;
     }
-    let out = protocol::answers(&input);
+    // room from the start: a buffer that grows is moved now and then, which a benchmark would count for some calls and not for others
+    let mut out = Vec::with_capacity(8 << 20);
+    protocol::answer_all(&input, &mut out);
     std::io::stdout().lock().write_all(&out).map_or(1, |_| 0)
 }
 

@@ -1,4 +1,4 @@
-//! An independent implementation of document 01, with request (a) of document 02, written from the documents.
+//! An independent implementation of document 01, with requests (a) and (b) of document 02, written from the documents.
 //!
 //! Plain Rust: the sheet is read in one pass, the plan gets a successor index, each action formula becomes one mask,
 //! and the lent table is the memo of the query.
@@ -252,7 +252,7 @@ fn meets(m: &Mask, a: u8) -> bool {
 }
 
 /// For each state the numbers of its transitions: `first[s]..first[s + 1]`.
-pub fn successors(p: &Parts) -> [u16; 130] {
+fn successors(p: &Parts) -> [u16; 130] {
     let mut first = [0u16; 130];
     for c in p.transitions.chunks_exact(3) {
         first[c[0] as usize + 1] += 1;
@@ -378,35 +378,37 @@ pub fn clear(b: &[u8], table: &mut [u8]) -> Result<(), Refusal> {
     Ok(())
 }
 
-/// Is there a way of one or more transitions from a state back to it? (States without a way in are taken off.)
-pub fn has_loop(p: &Parts, first: &[u16; 130]) -> bool {
-    let mut into = [0u16; 128];
-    for c in p.transitions.chunks_exact(3) {
-        into[c[2] as usize] += 1;
-    }
-    let mut stack = [0u8; 128];
-    let mut top = 0;
-    for s in 0..p.states {
-        if into[s] == 0 {
-            stack[top] = s as u8;
-            top += 1;
-        }
-    }
-    let mut taken = 0;
-    while top > 0 {
-        top -= 1;
-        taken += 1;
-        let s = stack[top] as usize;
-        for c in p.transitions[3 * first[s] as usize..3 * first[s + 1] as usize].chunks_exact(3) {
-            let t = c[2] as usize;
-            into[t] -= 1;
-            if into[t] == 0 {
-                stack[top] = t as u8;
-                top += 1;
+#[derive(Clone, Copy)]
+enum Met {
+    Not,
+    Open,
+    Done,
+}
+
+/// Can a loop be reached from a state? Depth first: a transition to a state that is still open closes one.
+fn loop_reachable(p: &Parts, first: &[u16; 130], met: &mut [Met; 128], s: usize) -> bool {
+    met[s] = Met::Open;
+    for c in p.transitions[3 * first[s] as usize..3 * first[s + 1] as usize].chunks_exact(3) {
+        let to = c[2] as usize;
+        match met[to] {
+            Met::Open => return true,
+            Met::Done => {}
+            Met::Not => {
+                if loop_reachable(p, first, met, to) {
+                    return true;
+                }
             }
         }
     }
-    taken < p.states
+    met[s] = Met::Done;
+    false
+}
+
+/// The states from which a loop can be reached, by Table 1 and not by the search above: they are those from which
+/// transitions can be followed for ever, greatest X of "some" true X.
+pub fn before_loops(p: &Parts) -> u128 {
+    let ever = Parts { entries: &[1, 0, 0], nodes: &[8, 0, 1, 4, 0, 2, 6, 0, 0], binders: 1, binder_node: [0; 6], ..*p };
+    meaning(&ever, u64::MAX).map_or(0, |m| m.0)
 }
 
 struct Query<'a> {
@@ -468,7 +470,7 @@ pub fn query(b: &[u8], state: u8, table: &mut [u8]) -> Result<(bool, usize), Ref
         return Err((11, 0));
     }
     let first = successors(p);
-    if has_loop(p, &first) {
+    if loop_reachable(p, &first, &mut [Met::Not; 128], state as usize) {
         return Err((12, 0));
     }
     let len = p.table_len();

@@ -170,13 +170,18 @@ pub fn answer(request: &View, out: &mut Vec<u8>) {
     };
 }
 
+/// Every answer to an input, after what `out` holds.
+pub fn answer_all(input: &[u8], out: &mut Vec<u8>) {
+    let mut input = Input { rest: input };
+    while let Some(r) = input.request() {
+        answer(&r, out);
+    }
+}
+
 /// Every answer to an input.
 pub fn answers(input: &[u8]) -> Vec<u8> {
     let mut out = Vec::new();
-    let mut input = Input { rest: input };
-    while let Some(r) = input.request() {
-        answer(&r, &mut out);
-    }
+    answer_all(input, &mut out);
     out
 }
 

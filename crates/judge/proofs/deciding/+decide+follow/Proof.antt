@@ -1,6 +1,7 @@
 -- Deciding a cell and following its transitions meet their contracts. The measure: twice the falling number of the cell; for the walk, a number between those of its cells and of the cells that it calls on.
 use native.Mathlib.Omega.{arith}
 use borrow.Author.Needs.{needs}
+use mathlib.Core.Logic.{inl}
 use mathlib.Core.Path.{refl, sym, ap, _∙_}
 use Prim.Native.Nat.{ℕ, _<_, _+_, _*_, _-_}
 use denote.Ref.{now}
@@ -8,7 +9,6 @@ use Rattle.sheet.specs.Contents.{planBody, ruleBody}
 use Rattle.judge.specs.Cells.{cell}
 use Rattle.judge.specs.Deciding.{Following}
 use Rattle.judge.proofs.Ranks.{rank}
-use Rattle.judge.proofs.Outgoing.{end-place}
 use Rattle.judge.proofs.FollowWalk.{walkRank, Walked, start, transition-among, met, call-child, turn-decided, turn-on, turn-past, sum-small, finish}
 use Rattle.judge.proofs.DecideRows.{placed, few-states, node-at, index-small, cell-inside, call-follow, binder-asked, binder-found, binder-at, call-first, call-second, call-outer, call-body, binder-x}
 use Rattle.judge.proofs.DecideAnswers.{answer-known, answer-false, answer-true, answer-unknown, answer-modal, answer-outer, answer-constant, answer-body, answer-first, answer-second}
@@ -255,7 +255,7 @@ module _ (t : ℕ) where
   follow-first-of-requires c κs = omega (arith, c .before .before .before .before .before .pre .1 .0 .state-below, few-states (now (c .before .before .before .before .before .args .sheet)) (c .before .before .before .before .before .pre .1 .0 .accepted))
 
   follow-loop-holds : follow-lts.Need-loop-holds (follow-claims t) (follow-at t) follow.Post follow-Inv-loop follow-μ-loop
-  follow-loop-holds c = (c .before .before .before .before .before .before .pre .1 .0, start (now (c .before .before .before .before .before .before .args .sheet)) (now (c .before .before .before .before .before .before .args .index)) (now (c .before .before .before .before .before .before .args .table)) (c .before .before .before .before .before .before .args .node .0) (c .before .before .before .before .before .before .args .state .0) (c .before .before .before .before .before .before .pre .1 .0) (c .first-of .result) (c .before .end-of .result) (c .first-of .ensures ∙ c .before .before .before .before .before .before .pre .1 .0 .prepared .firsts-are (c .before .before .before .before .before .before .args .state .0) (omega (arith, c .before .before .before .before .before .before .pre .1 .0 .state-below))) (c .before .end-of .ensures ∙ end-place _ (now (c .before .before .before .before .before .before .args .index)) (c .before .before .before .before .before .before .pre .1 .0 .prepared .firsts-are) _ (c .before .before .before .before .before .before .pre .1 .0 .state-below)))
+  follow-loop-holds c = (c .before .before .before .before .before .before .pre .1 .0, start (now (c .before .before .before .before .before .before .args .sheet)) (now (c .before .before .before .before .before .before .args .index)) (now (c .before .before .before .before .before .before .args .table)) (c .before .before .before .before .before .before .args .node .0) (c .before .before .before .before .before .before .args .state .0) (c .before .before .before .before .before .before .pre .1 .0) (c .first-of .result) (c .before .end-of .result) (c .first-of .ensures ∙ c .before .before .before .before .before .before .pre .1 .0 .prepared .states-are (c .before .before .before .before .before .before .args .state .0) (inl refl) .begins) (c .before .end-of .ensures ∙ c .before .before .before .before .before .before .pre .1 .0 .prepared .states-are (c .before .before .before .before .before .before .args .state .0) (inl refl) .ends))
 
   follow-label-of-requires : follow-lts.Need-label-of-requires (follow-claims t) (follow-at t) follow.Post follow-Inv-loop follow-μ-loop
   follow-label-of-requires c κs = record { accepted = c .before .before .before .before .before .before .before .before .pre .1 .0 .accepted; among = transition-among (now (c .before .before .before .before .before .before .before .before .args .sheet)) (now (c .before .before .before .before .before .before .before .before .args .index)) (now (c .before .before .before .before .before .before .before .before .args .table)) (c .before .before .before .before .before .before .before .before .args .node .0) (c .before .before .before .before .before .before .before .before .args .state .0) (c .before .loop .inv .0) _ _ _ _ _ (c .before .loop .inv .1) (c .loop-test .taken) }

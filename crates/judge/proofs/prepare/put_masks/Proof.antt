@@ -1,55 +1,55 @@
--- `judge::prepare::put_masks` meets its contract. Of the loop: the places of the actions below a that occur are filled.
+-- `judge::prepare::put_masks` meets its contract. Of the loop: the places of the actions below a that have a 1 hold masks, those from a on are as they were.
 use borrow.Author.Needs.{needs}
 use native.Mathlib.Omega.{arith}
-use mathlib.Core.Path.{_≡_, ap, _∙_}
+use mathlib.Core.Path.{_≡_, refl, ap, subst, _∙_}
 use mathlib.Core.List.{List}
-use Prim.Native.Nat.{ℕ, _-_, _≤_}
+use Prim.Native.Nat.{ℕ, _+_, _-_, _≤_}
 use denote.Ref.{now}
-use lib.ListN.{getD}
-use Rattle.sheet.specs.Plan.{actionCount, label}
+use lib.ListN.{getD, set}
+use Rattle.sheet.specs.Plan.{actionCount}
 use Rattle.calculus.specs.Meeting.{meetingMask}
-use Rattle.judge.proofs.PrepareSteps.{Filled, filled-none, filled-more, filled-next}
+use Rattle.judge.proofs.PrepareSteps.{Filled, filled-none, filled-more, filled-next, SameFrom, same-from-set}
 use Rattle.judge.proofs.prepare.put_masks.Statement.{statement}
 use Rattle.judge.proofs.prepare.put_masks.Tie as tie
 
 abbrev Right : List ℕ → List ℕ → List ℕ → ℕ → ℕ → Type 0
-Right plan actions used a v = getD used a 0 ≡ 1 → v ≡ meetingMask (actionCount plan) actions a
+Right plan actions old a v = getD old (160 + a) 0 ≡ 1 → v ≡ meetingMask (actionCount plan) actions a
 
 abbrev Inv-loop : tie.InvT-loop
-Inv-loop plan actions index₀ count used a₀ index a = (a ≤ 256) × Filled (Right plan actions used) 160 index₀ a index
+Inv-loop plan actions index₀ count a₀ index a = (a ≤ count) × Filled (Right plan actions index₀) 160 index₀ a index × SameFrom (160 + a) index₀ index
 
 abbrev μ-loop : tie.MeasureT-loop
-μ-loop plan actions index₀ count used a₀ index a = 256 - a
+μ-loop plan actions index₀ count a₀ index a = count - a
 
 action-count-requires : tie.Need-action-count-requires Inv-loop μ-loop
 action-count-requires c κs = search needs
 
-used-actions-requires : tie.Need-used-actions-requires Inv-loop μ-loop
-used-actions-requires c κs = c .before .before .before .pre .0
-
 loop-holds : tie.Need-loop-holds Inv-loop μ-loop
 loop-holds c =
-    let b = c .before .before .before .before in
+    let b = c .before .before .before in
     let a = b .args in
-    (omega arith, filled-none (Right (now (a .plan)) (now (a .actions)) (c .used-actions .result)) 160 (now (a .index)) (b .pre .1))
+    (omega arith, filled-none (Right (now (a .plan)) (now (a .actions)) (now (a .index))) 160 (now (a .index)) (b .pre), λ i h. refl)
 
-array-read-if1 : tie.Need-array-read-if1 Inv-loop μ-loop
-array-read-if1 c = omega arith
+wide-requires : tie.Need-wide-requires Inv-loop μ-loop
+wide-requires c κs = search needs
 
-cast-t13 : tie.Need-cast-t13 Inv-loop μ-loop
-cast-t13 c = omega arith
+add-at : tie.Need-add-at Inv-loop μ-loop
+add-at c = omega (arith, c .wide .ensures .1)
+
+mul-if1 : tie.Need-mul-if1 Inv-loop μ-loop
+mul-if1 c = omega (arith, c .wide .ensures .1)
+
+element-copy-out-if1 : tie.Need-element-copy-out-if1 Inv-loop μ-loop
+element-copy-out-if1 c = omega (arith, c .wide .ensures .1)
 
 meeting-requires : tie.Need-meeting-requires Inv-loop μ-loop
 meeting-requires c κs = search needs
 
-add-index : tie.Need-add-index Inv-loop μ-loop
-add-index c = omega arith
-
 mul-index : tie.Need-mul-index Inv-loop μ-loop
-mul-index c = omega arith
+mul-index c = omega (arith, c .before .before .before .wide .ensures .1)
 
 element-write-index : tie.Need-element-write-index Inv-loop μ-loop
-element-write-index c = omega arith
+element-write-index c = omega (arith, c .before .before .before .wide .ensures .1)
 
 add-a : tie.Need-add-a Inv-loop μ-loop
 add-a c = omega arith
@@ -59,12 +59,15 @@ loop-less c = omega arith
 
 loop-again : tie.Need-loop-again Inv-loop μ-loop
 loop-again c =
-    let a = c .before .before .before .before .before .before .before .before .args in
-    let l = c .before .before .before .loop in
-    let count = c .before .before .before .before .before .action-count .ensures in (
+    let a = c .before .before .before .before .before .before .before .before .before .args in
+    let l = c .before .before .before .before .before .loop in
+    let count = c .before .before .before .before .before .before .action-count .ensures in
+    let place : 160 + l .a ≡ 160 + c .before .before .before .wide .result = omega (arith, c .before .before .before .wide .ensures .0) in (
       omega arith,
-      filled-more (Right (now (a .plan)) (now (a .actions)) (c .before .before .before .before .used-actions .result)) 160 (now (a .index)) (l .a) (l .index) (l .inv .1) (c .meeting .result) (omega arith)
-          (λ one. c .meeting .ensures ∙ ap (λ (n : ℕ). meetingMask n (now (a .actions)) (l .a)) count),
+      subst (λ (k : ℕ). Filled (Right (now (a .plan)) (now (a .actions)) (now (a .index))) 160 (now (a .index)) (l .a + 1) (set (l .index) k (c .meeting .result))) place
+          (filled-more (Right (now (a .plan)) (now (a .actions)) (now (a .index))) 160 (now (a .index)) (l .a) (l .index) (l .inv .1) (c .meeting .result) (omega arith)
+          (λ one. c .meeting .ensures ∙ ap (λ (n : ℕ). meetingMask n (now (a .actions)) (l .a)) count)),
+      λ i h. subst (λ (k : ℕ). getD (set (l .index) k (c .meeting .result)) i 0 ≡ getD (now (a .index)) i 0) place (same-from-set (160 + l .a) (c .meeting .result) (now (a .index)) (l .index) (l .inv .2) i (omega arith)),
     )
 
 add-a-2 : tie.Need-add-a-2 Inv-loop μ-loop
@@ -75,21 +78,22 @@ loop-less-2 c = omega arith
 
 loop-again-2 : tie.Need-loop-again-2 Inv-loop μ-loop
 loop-again-2 c =
-    let a = c .before .before .before .before .before .before .before .args in
-    let l = c .before .before .loop in (
+    let a = c .before .before .before .before .before .before .before .before .args in
+    let l = c .before .before .before .before .loop in
+    let place : 160 + c .before .before .wide .result ≡ 160 + l .a = omega (arith, c .before .before .wide .ensures .0) in (
       omega arith,
-      filled-next (Right (now (a .plan)) (now (a .actions)) (c .before .before .before .used-actions .result)) 160 (now (a .index)) (l .a) (l .index) (l .inv .1) (λ one. absurd (c .if1 .left one)),
+      filled-next (Right (now (a .plan)) (now (a .actions)) (now (a .index))) 160 (now (a .index)) (l .a) (l .index) (l .inv .1)
+          (λ one. absurd (c .if1 .left (ap (λ (k : ℕ). getD (l .index) k 0) place ∙ (l .inv .2 (160 + l .a) (omega arith) ∙ one)))),
+      λ i h. l .inv .2 i (omega arith),
     )
 
 returns : tie.Need-returns Inv-loop μ-loop
 returns c =
-    let a = c .before .before .before .before .before .before .args in
     let f = c .before .loop .inv .1 in
-    let u = c .before .before .used-actions .ensures in
     record {
       size = f .size;
       same = f .same;
-      filled = λ i h. f .filled (label (now (a .plan)) i) (omega (arith, u .occurs i h .0)) (u .occurs i h .1);
+      filled = λ a h. f .filled a (omega (arith, c .before .before .action-count .ensures));
     }
 
 pub put-masks-spec : {M : Type 1} → statement M
@@ -99,12 +103,12 @@ put-masks-spec =
     Inv-loop
     μ-loop
     action-count-requires
-    used-actions-requires
     loop-holds
-    array-read-if1
-    cast-t13
+    wide-requires
+    add-at
+    mul-if1
+    element-copy-out-if1
     meeting-requires
-    add-index
     mul-index
     element-write-index
     add-a

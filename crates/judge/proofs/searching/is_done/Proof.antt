@@ -1,7 +1,8 @@
 -- `judge::cycles::is_done` meets its contract.
 use borrow.Author.Needs.{needs}
-use Rattle.judge.proofs.cycles.is_done.Statement.{statement}
-use Rattle.judge.proofs.cycles.is_done.Tie as tie
+use mathlib.Core.Path.{refl}
+use Rattle.judge.proofs.searching.is_done.Statement.{statement}
+use Rattle.judge.proofs.searching.is_done.Tie as tie
 
 cast-at : tie.Need-cast-at
 cast-at c = search needs
@@ -10,7 +11,7 @@ element-copy-out-result : tie.Need-element-copy-out-result
 element-copy-out-result c = search needs
 
 returns : tie.Need-returns
-returns c = search needs
+returns c = refl
 
 pub is-done-spec : {M : Type 1} → statement M
 is-done-spec = tie.close (tie.spec cast-at element-copy-out-result returns)
