@@ -960,7 +960,7 @@ FIRST_TWO = table((2, 0, 0), (2, 1, 0))
 
 
 def guarded_rule(kind):
-    """some way of actions 0 leads to an action 1"""
+    """least (7) or greatest (8) X of: some 0 X or some 1 T"""
     return rule((kind, 0, 1), (2, 2, 4), (4, 0, 3), (6, 0, 0), (4, 1, 5), T)
 
 
@@ -970,7 +970,7 @@ def unguarded_rule(kind):
 
 
 def modal_rule(kind):
-    """two modal nodes, without fixed points"""
+    """two modal nodes without fixed points: "some" first for 7, "every" first for 8"""
     return rule((kind - 3, 0, 1), (12 - kind, 1, 2), (kind - 7, 0, 0))
 
 

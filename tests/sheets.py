@@ -40,6 +40,18 @@ CUT = {
                         (8, 1, 11), (3, 12, 14), (5, 2, 13), (0, 0, 0), (5, 4, 15), (6, 1, 0))),
 }
 
+CUT_TRANSITIONS = cases.triples(CUT['plan'][1], 4)
+# a piece that no transition leads to: from 7 to 8 and back
+SPARE_TRANSITIONS = [*CUT_TRANSITIONS, (7, 3, 8), (8, 4, 7), (8, 5, 6)]
+SPARE = {
+    'name': 'spare',
+    'title': 'The plan of cut.sheet with a discarded piece in which a key is cut and deburred over and over.',
+    'plan': ('As in cut.txt. States 7 and 8 are left over from an earlier plan: they lead to one another, round and round, and 8 to the release, but no step leads to them from state 0.',
+             cases.plan(9, 6, SPARE_TRANSITIONS), CUT_STATES + ['put back', 'cut anew'], CUT_ACTIONS),
+    'actions': CUT['actions'],
+    'rule': CUT['rule'],
+}
+
 
 def sheet_of(example):
     return cases.sheet_of(example['plan'][1], example['actions'][1], example['rule'][1])
@@ -103,7 +115,14 @@ def without_release():
     return cases.sheet_of(cases.plan(7, 6, kept), CUT['actions'][1], CUT['rule'][1])
 
 
+def with_way_to_loop():
+    """the plan with the discarded piece, and a transition to it"""
+    return cases.sheet_of(cases.plan(9, 6, sorted([*SPARE_TRANSITIONS, (5, 3, 8)])), SPARE['actions'][1], SPARE['rule'][1])
+
+
 CUT['also'] = 'Without the transition 3,5,6 the worn blank stays in the clamp for good, and the program prints `%s`.' % line_of(without_release())
+SPARE['also'] = ('The loop can\'t be reached from state 0, so the program judges as it does for cut.sheet. With the transition 5,3,8, a deburred key cut anew, it can, and the program prints `%s`.'
+                 % line_of(with_way_to_loop()))
 
 
 def inputs():
@@ -119,6 +138,7 @@ def inputs():
     for more in ([(3, 0, 3)], [(3, 0, 3), (3, 1, 0)], [(2, 0, 2)]):
         yield cases.sheet_of(cases.plan(4, 3, [(0, 1, 1), (1, 2, 2)] + more), cases.K_ACTIONS, cases.K_RULE)
     yield without_release()
+    yield with_way_to_loop()
     yield from cases.refusals()
     yield b''
     yield cases.sheet_of(cases.LONG_PLAN, cases.LONG_ACTIONS, cases.LONG_RULE) + b'\0'
@@ -127,7 +147,7 @@ def inputs():
 
 def main(args):
     if args[:1] == ['write'] and len(args) == 2:
-        for example in (KEY, CUT):
+        for example in (KEY, CUT, SPARE):
             Path(args[1], example['name'] + '.sheet').write_bytes(sheet_of(example))
             Path(args[1], example['name'] + '.txt').write_text(page(example))
         return 0

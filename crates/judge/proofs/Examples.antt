@@ -1,4 +1,4 @@
--- P1 to P11 of document 01, "Sheets to try", shown by computing with the definitions.
+-- P1 to P11 of document 01, "Sheets to try", and a sheet for document 02 (b), shown by computing with the definitions.
 use Prim.Native.Nat.{ℕ, zero, suc, _^_, _<_}
 use mathlib.Core.Path.{_≡_, refl, sym, subst, _∙_}
 use mathlib.Core.Bool.{true, false, false≢true}

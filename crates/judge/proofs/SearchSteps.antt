@@ -14,7 +14,7 @@ use Rattle.sheet.specs.Rules.{PlanKept}
 use Rattle.judge.specs.Loops.{Way, last, first, Reachable, settled}
 use Rattle.judge.specs.Cells.{successors}
 use Rattle.judge.specs.Deciding.{firstFrom}
-use Rattle.judge.specs.Searching.{Indexed, unseen, Done, Coloured, Searching, Retains, Finished, Searched, Explored}
+use Rattle.judge.specs.Searching.{Indexed, unseen, DoneState, Coloured, Searching, Retains, Finished, Searched, Explored}
 use Rattle.judge.proofs.Among.{false-if}
 use Rattle.judge.proofs.Settled.{settled-no-loop, way-on, onward}
 use Rattle.judge.proofs.Height.{successor-settled}
@@ -91,7 +91,7 @@ module _ (p : List ℕ) where
   }
 
   -- what is done stays done, whatever else is
-  done-on : (l m c d : List ℕ) (u : ℕ) → Retains p l m → ((v : ℕ) → 1 < getD c v 0 → 1 < getD d v 0) → Done p l c u → Done p m d u
+  done-on : (l m c d : List ℕ) (u : ℕ) → Retains p l m → ((v : ℕ) → 1 < getD c v 0 → 1 < getD d v 0) → DoneState p l c u → DoneState p m d u
   done-on l m c d u x keeps done = record {
     is-settled = done .is-settled;
     indexed = indexed-on l m u x (done .indexed);
@@ -119,11 +119,11 @@ module _ (l : List ℕ) (s c : ℕ) (h : s < length l) where
         | no q ↦ inr (q, sym (getD-set-other l s u c 0 q) ∙ e)
       ]
 
-  coloured-set : (p index : List ℕ) → Coloured p index l → ((v : ℕ) → 1 < getD l v 0 → 1 < getD (set l s c) v 0) → (1 < c → Done p index (set l s c) s) → Coloured p index (set l s c)
+  coloured-set : (p index : List ℕ) → Coloured p index l → ((v : ℕ) → 1 < getD l v 0 → 1 < getD (set l s c) v 0) → (1 < c → DoneState p index (set l s c) s) → Coloured p index (set l s c)
   coloured-set p index old keeps new = record { done = λ u m. go u m (recoloured u (getD (set l s c) u 0) refl) }
     where
-      go : (u : ℕ) → 1 < getD (set l s c) u 0 → ((u ≡ s) × (getD (set l s c) u 0 ≡ c)) ⊎ ((u ≢ s) × (getD l u 0 ≡ getD (set l s c) u 0)) → Done p index (set l s c) u
-      go u m (inl q) = subst (Done p index (set l s c)) (sym (q .0)) (new (omega (arith, q .1)))
+      go : (u : ℕ) → 1 < getD (set l s c) u 0 → ((u ≡ s) × (getD (set l s c) u 0 ≡ c)) ⊎ ((u ≢ s) × (getD l u 0 ≡ getD (set l s c) u 0)) → DoneState p index (set l s c) u
+      go u m (inl q) = subst (DoneState p index (set l s c)) (sym (q .0)) (new (omega (arith, q .1)))
       go u m (inr q) = done-on p index index l (set l s c) u (retains-self p index) keeps (old .done u (omega (arith, q .1)))
 
   -- a state that is not done is opened
@@ -158,6 +158,22 @@ pub record Walked (p begun start index colours : List ℕ) (s i : ℕ) : Type 0 
   pub noted : (k : ℕ) → firstFrom p s ≤ k → k < i → getD index (160 + label p k) 0 ≡ 1
   pub within : (u : ℕ) → getD colours u 0 ≢ getD start u 0 → Way (successors p) s u
 
+-- a state that is done needs no search
+met-done : (p index colours : List ℕ) (s : ℕ) → Coloured p index colours → 1 < getD colours s 0 → Searched p index colours index colours s true
+met-done p index colours s coloured h = record {
+  looped = λ q. absurd (true≢false q);
+  finished = λ q. record {
+    state-done = h;
+    same-length = refl;
+    coloured = coloured;
+    none-opened = λ u e. e;
+    none-forgotten = omega arith;
+    done-kept = λ u e. e;
+    retains = retains-self p index;
+  };
+  within = λ u n. absurd (n refl);
+}
+
 module _ (p index before : List ℕ) (s : ℕ) (asked : Searching p index before s) where
   inside : s < length before
   inside = omega (arith, asked .state-below, asked .room, asked .kept .few-states)
@@ -167,21 +183,6 @@ module _ (p index before : List ℕ) (s : ℕ) (asked : Searching p index before
   met-open e = record {
     looped = λ q. false-if _ (λ h. settled-no-loop (successors p) (stateCount p) s h (asked .open-leads s e));
     finished = λ q. absurd (true≢false (sym q));
-    within = λ u n. absurd (n refl);
-  }
-
-  pub met-done : 1 < getD before s 0 → Searched p index before index before s true
-  met-done h = record {
-    looped = λ q. absurd (true≢false q);
-    finished = λ q. record {
-      state-done = h;
-      same-length = refl;
-      coloured = asked .coloured;
-      none-opened = λ u e. e;
-      none-forgotten = omega arith;
-      done-kept = λ u e. e;
-      retains = retains-self p index;
-    };
     within = λ u n. absurd (n refl);
   }
 
@@ -252,19 +253,30 @@ module _ (p index before : List ℕ) (s : ℕ) (asked : Searching p index before
         note : getD noted (160 + label p i) 0 ≡ 1
         note = ap (λ (l : List ℕ). getD l (160 + label p i) 0) is-noted ∙ getD-set-same index′ (160 + label p i) 1 0 (omega (arith, places))
 
-        pub walk-on : Searching p noted colours (target p i)
-        walk-on = record {
+        pub target-small : target p i < stateCount p
+        target-small = asked .kept .target-below i (among p (asked .kept) s i (walked .after-first) more .0)
+
+        noted-coloured : Coloured p noted colours
+        noted-coloured = coloured-on p index′ noted colours noting (walked .coloured)
+
+        pub walk-on : getD colours (target p i) 0 ≤ 1 → Searching p noted colours (target p i)
+        walk-on h = record {
           kept = asked .kept;
           places = noting .size ∙ places;
-          state-below = asked .kept .target-below i (among p (asked .kept) s i (walked .after-first) more .0);
+          state-below = target-small;
+          not-done = h;
           room = as-long ∙ asked .room;
-          coloured = coloured-on p index′ noted colours noting (walked .coloured);
+          coloured = noted-coloured;
           open-leads = λ u e. go u (was-open u e);
         }
           where
             go : (u : ℕ) → (u ≡ s) ⊎ (getD before u 0 ≡ 1) → Way (successors p) u (target p i)
             go u (inl q) = subst (λ (v : ℕ). Way (successors p) v (target p i)) (sym q) (last follows)
             go u (inr q) = way-on (asked .open-leads u q) follows
+
+        -- it is done: there is nothing to search
+        pub walk-done : 1 < getD colours (target p i) 0 → Searched p noted colours noted colours (target p i) true
+        walk-done h = met-done p noted colours (target p i) noted-coloured h
 
         module _ (index″ after : List ℕ) (r : Bool) (got : Searched p noted colours index″ after (target p i) r) where
           -- it met a loop: it can be reached from s too
@@ -327,7 +339,7 @@ module _ (p index before : List ℕ) (s : ℕ) (asked : Searching p index before
           ending : Retains p index′ ended
           ending = subst (Retains p index′) (sym (is-ended ∙ ap (λ (k : ℕ). set index′ k i) place)) (retains-first p (asked .kept) index′ places (s + 1) i (omega (arith, asked .state-below)) e)
 
-          done : Done p ended (set colours s 2) s
+          done : DoneState p ended (set colours s 2) s
           done = record {
             is-settled = settled-by-targets p (asked .kept) s (asked .state-below) (λ k a b. walked .coloured .done (target p k) (walked .passed k a (omega (arith, e))) .is-settled);
             indexed = record {
@@ -360,6 +372,7 @@ module _ (p : List ℕ) (kept : PlanKept p) (s : ℕ) (below : s < stateCount p)
     kept = kept;
     places = size;
     state-below = below;
+    not-done = omega (arith, colourless 128 s);
     room = refl;
     coloured = record { done = λ u h. absurd (omega (arith, colourless 128 u)) };
     open-leads = λ u e. absurd (omega (arith, colourless 128 u));

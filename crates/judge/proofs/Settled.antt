@@ -79,15 +79,16 @@ module _ (next : ℕ → List ℕ) where
       go zero r l h = omega arith
       go (suc b) r l h = let e : (q : ℕ) × (q < r) × (settled next q s ≡ true) = settled-way r h w in go b (e .0) (omega (arith, e .1)) (e .2)
 
+  -- a loop that can be reached from a successor can be reached
+  reaches-back : (s t u : ℕ) → List·Memᴰ t (next s) → Reachable next t u → Loop next u → LoopReachable next s
+  reaches-back s t u m r w = (u, inr (onward m r), w)
+
   pub settled-reaches-none : (r s : ℕ) → settled next r s ≡ true → LoopReachable next s → ⊥
   settled-reaches-none r s h l = go (l .1)
     where
       go : Reachable next s (l .0) → ⊥
       go (inl e) = settled-no-loop r (l .0) (subst (λ (t : ℕ). settled next r t ≡ true) (sym e) h) (l .2)
       go (inr w) = let q : (q : ℕ) × (q < r) × (settled next q (l .0) ≡ true) = settled-way r h w in settled-no-loop (q .0) (l .0) (q .2) (l .2)
-
-  reaches-back : (s t : ℕ) → List·Memᴰ t (next s) → LoopReachable next t → LoopReachable next s
-  reaches-back s t m l = (l .0, inr (onward m (l .1)), l .2)
 
   module _ (S : ℕ) (inside : (s : ℕ) → s < S → (t : ℕ) → List·Memᴰ t (next s) → t < S) where
     -- `passed` holds the states of the way so far
@@ -113,8 +114,8 @@ module _ (next : ℕ → List ℕ) where
         go : (b : Bool) → passed s ≡ b → Through r → LoopReachable next s
         go true p rest = (s, inl refl, ways s p)
         go false p rest =
-            reaches-back s (find .0) (find .1)
-            (rest (find .0) (adding passed s) (λ u q. ways-on u (eqb s u) refl q) (omega (arith, count-adding S passed s h p)) (inside s h (find .0) (find .1)) (find .2))
+            let l = rest (find .0) (adding passed s) (λ u q. ways-on u (eqb s u) refl q) (omega (arith, count-adding S passed s h p)) (inside s h (find .0) (find .1)) (find .2) in
+            reaches-back s (find .0) (l .0) (find .1) (l .1) (l .2)
 
     pub settled-or-loop : (s : ℕ) → s < S → settled next S s ≡ false → LoopReachable next s
     settled-or-loop s h e = unsettled S s (λ u. false) (λ u q. absurd (true≢false (sym q))) (omega arith) h e

@@ -84,7 +84,7 @@ module _ (p a r : List ℕ) where
   unfoldable pub rows : Cell → Row Cell
   rows c = rowOf c (nodeSort (nodeKind r (c .node)))
 
--- of an accepted sheet, no chain of rows is as long that starts at a cell from whose state no loop can be reached (`rank-enough` of
+-- of an accepted sheet, a chain of rows that starts at a cell from whose state no loop can be reached is shorter (`rank-enough` of
 -- proofs/Ranks.antt)
 abbrev pub enough : ℕ
 enough = 131072

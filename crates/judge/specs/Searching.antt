@@ -29,24 +29,25 @@ unseen (zero ∷ l) = suc (unseen l)
 unseen (suc k ∷ l) = unseen l
 
 -- a done state is settled and indexed, and its transitions lead to done states
-pub record Done (p index colours : List ℕ) (u : ℕ) : Type 0 where
+pub record DoneState (p index colours : List ℕ) (u : ℕ) : Type 0 where
   pub is-settled : settled (successors p) (stateCount p) u ≡ true
   pub indexed : Indexed p index u
   pub leads-on : (i : ℕ) → firstFrom p u ≤ i → i < firstFrom p (u + 1) → 1 < getD colours (target p i) 0
 
 pub record Coloured (p index colours : List ℕ) : Type 0 where
-  pub done : (u : ℕ) → 1 < getD colours u 0 → Done p index colours u
+  pub done : (u : ℕ) → 1 < getD colours u 0 → DoneState p index colours u
 
--- a search may begin at a state: a way leads there from each open state
+-- a search may begin at a state: it is not done, and a way leads there from each open state
 pub record Searching (p index colours : List ℕ) (state : ℕ) : Type 0 where
   pub kept : PlanKept p
   pub places : length index ≡ 416
   pub state-below : state < stateCount p
+  pub not-done : getD colours state 0 ≤ 1
   pub room : length colours ≡ 128
   pub coloured : Coloured p index colours
   pub open-leads : (u : ℕ) → getD colours u 0 ≡ 1 → Way (successors p) u state
 
--- what the index said before 16, of where transitions begin, and of actions, it says still
+-- what the places of the index before 16 hold, and what it says of where transitions begin and of actions, stays
 pub record Retains (p old new : List ℕ) : Type 0 where
   pub size : length new ≡ length old
   pub same : SameBefore 16 old new
@@ -67,7 +68,7 @@ pub record Finished (p index before index′ after : List ℕ) (state : ℕ) : T
 pub record Searched (p index before index′ after : List ℕ) (state : ℕ) (found-none : Bool) : Type 0 where
   pub looped : found-none ≡ false → settled (successors p) (stateCount p) state ≡ false
   pub finished : found-none ≡ true → Finished p index before index′ after state
-  -- it looks at what can be reached from the state and at nothing else
+  -- it colours no state that can't be reached from the state
   pub within : (u : ℕ) → getD after u 0 ≢ getD before u 0 → Reachable (successors p) state u
 
 -- what the search of a queried state leaves: its answer, and where no loop can be reached, what the index says of each state that can

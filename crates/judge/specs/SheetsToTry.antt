@@ -103,6 +103,6 @@ pub record SheetsToTry : Type 0 where
   pub p11-greatest : Word greatest-loop 1
   pub p11-query : (t : List ℕ) → reportedQuery (queriedOf least-loop 0 t) ≡ refusedBy 12
   pub p11-query-greatest : (t : List ℕ) → reportedQuery (queriedOf greatest-loop 0 t) ≡ refusedBy 12
-  -- Document 02 (b), a sheet of our own: refused are the states on a loop, the state that leads to one, and the one that the plan doesn't
-  -- have. The loops that no step leads to from 1 and 4 refuse neither, the one that leads to 1 included
+  -- Document 02 (b), a sheet of our own: refused are 0 and 3, on a loop, 2, which leads to one, and 5, which the plan doesn't have. 1 and 4
+  -- are judged, though a loop leads to 1
   pub b-loops : Asked loops-elsewhere 10 (0 ∷ 1 ∷ 2 ∷ 3 ∷ 4 ∷ 1 ∷ 5 ∷ []) (refusedBy 12 ∷ judged false 2 ∷ refusedBy 12 ∷ refusedBy 12 ∷ judged true 1 ∷ judged false 0 ∷ refusedBy 11 ∷ [])

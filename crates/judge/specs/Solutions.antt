@@ -30,7 +30,8 @@ pub record LoopFreeCell (s : List ℕ) (c : Cell) : Type 0 where
 abbrev pub ComesTo : (Cell → Row Cell) → Cell → Cell → Type 0
 ComesTo R c d = Reachable (λ e. R e .entries) c d
 
--- for a sheet s, rows R of its cells, and a cell c: the rows of the cells that c can come to have one solution
+-- for a sheet s, rows R of its cells, and a cell c: the rows of the cells that c can come to have one solution, and need is
+-- what its sentence says
 pub record OneSolution (s : List ℕ) (R : Cell → Row Cell) (c : Cell) : Type 0 where
   -- each cell that c can come to is a cell of the sheet, from whose state no loop can be reached
   pub stays : (d : Cell) → ComesTo R c d → LoopFreeCell s d

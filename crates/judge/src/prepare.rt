@@ -69,7 +69,7 @@ fn put_binders(rule: &[u8], index: &mut [u32; 416])
     }
 }
 
-// From place 160 on: which formulas each action meets, in place of its 1.
+// From place 160 on: which formulas each noted action meets, in place of its 1.
 fn put_masks(plan: &[u8], actions: &[u8], index: &mut [u32; 416])
     requires { ⌜ length (now index) ≡ 416 ⌝ }
     ensures { λ _. ⌜ Masks (now (plan .entry)) (now (actions .entry)) (now (index .entry)) (now (index .exit)) ⌝ }
@@ -87,7 +87,7 @@ fn put_masks(plan: &[u8], actions: &[u8], index: &mut [u32; 416])
     }
 }
 
-// Whether no loop can be reached from a state; where none can, the index of an accepted sheet for queries of it.
+// Whether no loop can be reached from a state of an accepted sheet; where none can, the index then holds what a query of the state works with.
 pub(crate) fn prepare(sheet: &[u8], index: &mut [u32; 416], state: State) -> bool
     requires { ⌜ (sheetCheck (now sheet) ≡ Passed) × (length (now index) ≡ 416) × (state .0 < stateCount (planBody (now sheet))) ⌝ }
     ensures { λ b. ⌜ b ≡ loopFree (planBody (now (sheet .entry))) (state .0) ⌝ }

@@ -82,7 +82,7 @@ fn put(index: &mut [u32; 416], at: usize, n: usize)
     index[at] = n as u32;
 }
 
-// Whether the search from a state meets no open state. A state is not seen (0), open (1) or done (2). count is the number of transitions.
+// Whether the search from a state that is not done meets no open state. A state is not seen (0), open (1) or done (2). count is the number of transitions.
 fn visit(
     plan: &[u8],
     count: usize,
@@ -97,9 +97,6 @@ fn visit(
     let colour = colours[at];
     if colour == 1 {
         return false;
-    }
-    if 1 < colour {
-        return true;
     }
     colours[at] = 1;
     let mut i = first_from(plan, count, state);

@@ -31,7 +31,8 @@ numberOf (SyntaxFault n) = 9
 numberOf (BindingFault n) = 10
 -- "11: queried state not below S."
 numberOf NoSuchState = 11
--- "12: the plan has a loop (query only)." Document 02 (b): "12 exactly when a loop can be reached from the queried state"
+-- document 01: "12: the plan has a loop (query only)."; since document 02 (b): "12 exactly when a loop can be reached from the queried
+-- state"
 numberOf Loop = 12
 -- "13: S over 64 (reference only)."
 numberOf TooManyStates = 13

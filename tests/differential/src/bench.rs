@@ -337,9 +337,10 @@ fn page(rows: &[Row], missing: &[&str], start: &[f64], start_time: &[f64], each:
     let of = |op: usize, n: usize| rows.iter().find(|r| r.op == op && r.size == n);
     let beside: Vec<(&Row, &Row)> = SIZES.iter().filter_map(|&(n, _)| Some((of(0, n)?, of(4, n)?))).collect();
     if !beside.is_empty() {
-        o += "\nBeyond reading the sheet, the driver's query looks at the transitions of the states that can be reached from its own; the Rust\n\
-              program indexes all transitions first. No transition leaves an end state: what its query takes beyond the reading is for the\n\
-              rule, for the table's bytes and for a few rows. Beside the reading of the same sheets, in instructions:\n\n";
+        o += "\nBeyond reading the sheet, the driver's query looks at the transitions of the states that can be reached from its own, and at a few\n\
+              others to find where those begin; the Rust program indexes all transitions first. No transition leaves an end state: what its\n\
+              query takes beyond the reading is for the rule, for the table's bytes and for a few rows. Beside the reading of the same\n\
+              sheets, in instructions:\n\n";
         o += "| states | driver, reading | driver, query of an end state | ratio | Rust, reading | Rust, query of an end state | ratio |\n";
         o += "|---:|---:|---:|---:|---:|---:|---:|\n";
         for (read, end) in beside {

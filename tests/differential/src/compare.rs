@@ -75,7 +75,7 @@ pub fn selfcheck(seed: u64, count: u64) -> i32 {
             println!("seed {seed}, sheet {i}: the two reference judges differ");
             return 1;
         }
-        let before = oracle::before_loops(&p);
+        let before = oracle::loop_reachable_states(&p);
         let mut table = vec![0; p.table_len()];
         let (mut sum, mut refused) = (0, 0);
         for s in 0..p.states as u8 {
@@ -132,7 +132,7 @@ impl LoopTally {
     fn count(&mut self, r: &Request, answer: &str) {
         let (Request::List { sheet, .. } | Request::Query { sheet, .. }) = r else { return };
         let Ok(ok) = oracle::read(sheet) else { return };
-        if oracle::before_loops(&ok.parts) != 0 {
+        if oracle::loop_reachable_states(&ok.parts) != 0 {
             let lines = |start: &str| answer.lines().filter(|l| l.starts_with(start)).count() as u64;
             self.add(lines("query 12 "), lines("query 0 "));
         }
@@ -236,7 +236,7 @@ impl Turns {
         }
         self.made[kind] += 1;
         self.binders[n] += 1;
-        self.loops += u64::from(oracle::before_loops(&ok.parts) != 0);
+        self.loops += u64::from(oracle::loop_reachable_states(&ok.parts) != 0);
         self.guarded += u64::from(oracle::guarded(&ok.parts));
         if kind == 1 {
             self.telling[gen::telling(sheet)] += 1;

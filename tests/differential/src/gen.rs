@@ -81,7 +81,7 @@ impl Parts {
 #[derive(Clone, Copy, PartialEq)]
 pub enum Loops {
     Nowhere,
-    /// Among some of its states, so that from others none may be reached.
+    /// Among some of its states, so that there may be others from which none can be reached.
     Part,
     Anywhere,
 }
@@ -878,7 +878,7 @@ fn table_len(sheet: &[u8]) -> usize {
 /// The states from which a loop can be reached, and the others; none of a sheet that is refused.
 fn by_loops(sheet: &[u8]) -> [Vec<u8>; 2] {
     let Ok(ok) = oracle::read(sheet) else { return [vec![], vec![]] };
-    let before = oracle::before_loops(&ok.parts);
+    let before = oracle::loop_reachable_states(&ok.parts);
     [1, 0].map(|side| (0..ok.parts.states as u8).filter(|&s| before >> s & 1 == side).collect())
 }
 

@@ -380,7 +380,7 @@ pub fn clear(b: &[u8], table: &mut [u8]) -> Result<(), Refusal> {
 
 #[derive(Clone, Copy)]
 enum Met {
-    Not,
+    Unseen,
     Open,
     Done,
 }
@@ -393,7 +393,7 @@ fn loop_reachable(p: &Parts, first: &[u16; 130], met: &mut [Met; 128], s: usize)
         match met[to] {
             Met::Open => return true,
             Met::Done => {}
-            Met::Not => {
+            Met::Unseen => {
                 if loop_reachable(p, first, met, to) {
                     return true;
                 }
@@ -406,7 +406,7 @@ fn loop_reachable(p: &Parts, first: &[u16; 130], met: &mut [Met; 128], s: usize)
 
 /// The states from which a loop can be reached, by Table 1 and not by the search above: they are those from which
 /// transitions can be followed for ever, greatest X of "some" true X.
-pub fn before_loops(p: &Parts) -> u128 {
+pub fn loop_reachable_states(p: &Parts) -> u128 {
     let ever = Parts { entries: &[1, 0, 0], nodes: &[8, 0, 1, 4, 0, 2, 6, 0, 0], binders: 1, binder_node: [0; 6], ..*p };
     meaning(&ever, u64::MAX).map_or(0, |m| m.0)
 }
@@ -470,7 +470,7 @@ pub fn query(b: &[u8], state: u8, table: &mut [u8]) -> Result<(bool, usize), Ref
         return Err((11, 0));
     }
     let first = successors(p);
-    if loop_reachable(p, &first, &mut [Met::Not; 128], state as usize) {
+    if loop_reachable(p, &first, &mut [Met::Unseen; 128], state as usize) {
         return Err((12, 0));
     }
     let len = p.table_len();

@@ -1,4 +1,4 @@
--- `judge::cycles::is_done` meets its contract.
+-- `judge::searching::is_done` meets its contract.
 use borrow.Author.Needs.{needs}
 use mathlib.Core.Path.{refl}
 use Rattle.judge.proofs.searching.is_done.Statement.{statement}
