@@ -1,5 +1,5 @@
--- Ways and loops, as document 01 has them under "Lists of queries", and what can be reached, as document 02 (b) has it. What follows s in
--- one step is `next s`.
+-- Ways and loops, as document 01 has them under "Lists of queries", and what can be reached, of which document 02 (b) speaks. What follows
+-- s in one step is `next s`.
 use mathlib.Core.Bool.{Bool, true, false, _&&_}
 use mathlib.Core.List.{List, [], _∷_, List·Memᴰ}
 use mathlib.Core.Logic.{_⊎_}
@@ -29,7 +29,7 @@ module _ (next : ℕ → List ℕ) where
   abbrev pub LoopReachable : ℕ → Type 0
   LoopReachable s = (t : ℕ) × Reachable next s t × Loop t
 
-  -- The test behind 12; what it tells is in `TwelveExactly` of specs/Querying.antt. Round 0 settles no state; round r + 1 settles a state
+  -- What the test for loops computes (`loopFree` of specs/Querying.antt). Round 0 settles no state; round r + 1 settles a state
   -- whose every successor is settled in round r
   unfoldable pub settled : ℕ → ℕ → Bool
   settled zero s = false

@@ -1,4 +1,5 @@
--- What each step of preparing a query leaves in the index. Each fills places from one on, and keeps those before it.
+-- What each step of preparing a query leaves in the index, but for the search (specs/Searching.antt). Each fills places from one on, and
+-- keeps those before it.
 use Prim.Native.Nat.{ℕ, _+_, _<_}
 use mathlib.Core.Path.{_≡_}
 use mathlib.Core.List.{List}
@@ -24,7 +25,7 @@ pub record Binders (r old new : List ℕ) : Type 0 where
   pub same : SameBefore 3 old new
   pub filled : (k : ℕ) → k < 6 → getD new (3 + k) 0 ≡ binderNode r k
 
--- a mask in place of the 1 of each action
+-- a mask in place of the 1 of each noted action
 pub record Masks (p a old new : List ℕ) : Type 0 where
   pub size : length new ≡ 416
   pub same : SameBefore 160 old new

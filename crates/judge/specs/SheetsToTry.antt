@@ -1,4 +1,4 @@
--- Document 01, "Sheets to try": P1 to P11, "shown together, as one conjunction over the rows and Table 1".
+-- Document 01, "Sheets to try": P1 to P11, "shown together, as one conjunction over the rows and Table 1"; and a sheet for document 02 (b).
 use Prim.Native.Nat.{ℕ}
 use mathlib.Core.Path.{_≡_}
 use mathlib.Core.Bool.{Bool, true, false}

@@ -75,7 +75,7 @@ pub fn selfcheck(seed: u64, count: u64) -> i32 {
             println!("seed {seed}, sheet {i}: the two reference judges differ");
             return 1;
         }
-        let before = oracle::loop_reachable_states(&p);
+        let looping = oracle::loop_reachable_states(&p);
         let mut table = vec![0; p.table_len()];
         let (mut sum, mut refused) = (0, 0);
         for s in 0..p.states as u8 {
@@ -85,11 +85,11 @@ pub fn selfcheck(seed: u64, count: u64) -> i32 {
                     sum += k;
                     done += 1;
                     yes += u64::from(v);
-                    before >> s & 1 == 0 && v == (truth >> s & 1 == 1) && again == Ok((v, 0))
+                    looping >> s & 1 == 0 && v == (truth >> s & 1 == 1) && again == Ok((v, 0))
                 }
                 refusal => {
                     refused += 1;
-                    before >> s & 1 == 1 && refusal == Err((12, 0)) && again == refusal
+                    looping >> s & 1 == 1 && refusal == Err((12, 0)) && again == refusal
                 }
             };
             if !good {
@@ -102,7 +102,7 @@ pub fn selfcheck(seed: u64, count: u64) -> i32 {
             return 1;
         }
         sheets += 1;
-        if before != 0 {
+        if looping != 0 {
             loops.add(refused, p.states as u64 - refused);
         }
     }

@@ -878,8 +878,8 @@ fn table_len(sheet: &[u8]) -> usize {
 /// The states from which a loop can be reached, and the others; none of a sheet that is refused.
 fn by_loops(sheet: &[u8]) -> [Vec<u8>; 2] {
     let Ok(ok) = oracle::read(sheet) else { return [vec![], vec![]] };
-    let before = oracle::loop_reachable_states(&ok.parts);
-    [1, 0].map(|side| (0..ok.parts.states as u8).filter(|&s| before >> s & 1 == side).collect())
+    let looping = oracle::loop_reachable_states(&ok.parts);
+    [1, 0].map(|side| (0..ok.parts.states as u8).filter(|&s| looping >> s & 1 == side).collect())
 }
 
 /// Work of the plain iteration above which a reference request is not made.
