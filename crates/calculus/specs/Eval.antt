@@ -1,12 +1,13 @@
--- Table 1 computed: a least fixed point by S rounds from the empty set, a greatest by S rounds from the full set. That it is Table 1 is holds-eval and
--- eval-holds of proofs/Decide.antt; nobody has to believe it, since ByTable1 of the crate reference does not speak of it.
+-- Table 1 computed: a least fixed point by S rounds from the empty set, a greatest by S rounds from the full set. It is Table 1's meaning
+-- (holds-eval and eval-holds of proofs/table1/Decide.antt), and each promise that speaks of it has one beside it that does not: ByTable1
+-- of the crate reference.
 use Prim.Native.Nat.{ℕ, zero, suc}
 use mathlib.Core.Bool.{Bool, true, false, not, _&&_, _||_}
 use mathlib.Core.List.{List, [], _∷_}
 use lib.Dec.{eqb}
 use lib.ListN.{getD}
-use Rattle.calculus.specs.Formulas.{ActionFormula, Formula, never, always, disj, conj, some, every, var, least, greatest}
-use Rattle.calculus.specs.Plans.{Transition, Plan}
+use Rattle.calculus.specs.Formulas.{ActionFormula, Formula, falseFormula, trueFormula, disj, conj, some, every, var, least, greatest}
+use Rattle.sheet.specs.TransitionSystem.{LabelledTransition, Plan}
 use Rattle.calculus.specs.Meaning.{meets, bind}
 
 -- no state
@@ -32,18 +33,18 @@ rounds S F zero U = U
 rounds S F (suc n) U = tabulate S (F (rounds S F n U))
 
 -- Some transition of the list passes the test.
-unfoldable pub anyTransition : (Transition → Bool) → List Transition → Bool
+unfoldable pub anyTransition : (LabelledTransition → Bool) → List LabelledTransition → Bool
 anyTransition p [] = false
 anyTransition p (t ∷ ts) = p t || anyTransition p ts
 
 -- The transition is from s and its action meets α.
-unfoldable pub departs : Plan → ActionFormula → ℕ → Transition → Bool
+unfoldable pub departs : Plan → ActionFormula → ℕ → LabelledTransition → Bool
 departs P α s t = eqb (t .origin) s && meets (P .actions) α (t .action)
 
 -- The meaning of φ in ρ as a set. What the parts mean stands in a `let` above the state, so that it is computed once for all states.
 unfoldable pub eval : Plan → Formula → (ℕ → ℕ → Bool) → ℕ → Bool
-eval P never ρ = emptySet
-eval P always ρ = fullSet
+eval P falseFormula ρ = emptySet
+eval P trueFormula ρ = fullSet
 eval P (disj φ ψ) ρ = let a = eval P φ ρ in let b = eval P ψ ρ in λ s. a s || b s
 eval P (conj φ ψ) ρ = let a = eval P φ ρ in let b = eval P ψ ρ in λ s. a s && b s
 eval P (some α φ) ρ = let a = eval P φ ρ in λ s. anyTransition (λ t. departs P α s t && a (t .target)) (P .transitions)

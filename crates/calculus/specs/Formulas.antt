@@ -1,29 +1,29 @@
 -- The syntax of Table 1, and the range of actions of document 02 (a). Actions and variables are numbers.
 use Prim.Native.Nat.{ℕ}
 
--- Action formulas α.
+-- Action formulas α. Document 01: "Kinds: 0 false, 1 true, 2 action x .., 3 x or y, 4 x and y, 5 not x."
 pub data ActionFormula : Type 0 where
   -- F
-  nothing : ActionFormula
+  noAction : ActionFormula
   -- T
-  anything : ActionFormula
+  anyAction : ActionFormula
   -- a
-  only : ℕ → ActionFormula
+  oneAction : ℕ → ActionFormula
   -- α₁ or α₂
-  either : ActionFormula → ActionFormula → ActionFormula
+  orAction : ActionFormula → ActionFormula → ActionFormula
   -- α₁ and α₂
-  both : ActionFormula → ActionFormula → ActionFormula
+  andAction : ActionFormula → ActionFormula → ActionFormula
   -- not α
-  except : ActionFormula → ActionFormula
+  notAction : ActionFormula → ActionFormula
   -- not in Table 1. Document 02 (a), "Stretches of actions" (ranges): "every action from x to y, both ends included"
   between : ℕ → ℕ → ActionFormula
 
--- State formulas φ.
+-- State formulas φ. "0 F, 1 T, 2 or, 3 and .., 4 some (diamond), 5 every (box) .., 6 variable x, 7 least, 8 greatest fixed point"
 pub data Formula : Type 0 where
   -- F
-  never : Formula
+  falseFormula : Formula
   -- T
-  always : Formula
+  trueFormula : Formula
   -- φ₁ or φ₂
   disj : Formula → Formula → Formula
   -- φ₁ and φ₂

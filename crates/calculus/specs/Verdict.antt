@@ -5,7 +5,8 @@ use mathlib.Core.List.{List}
 use Rattle.sheet.specs.Contents.{planBody, actionsBody, ruleBody}
 use Rattle.sheet.specs.Plan.{stateCount}
 use Rattle.calculus.specs.Meaning.{Holds}
-use Rattle.calculus.specs.Decode.{planOf, formula}
+use Rattle.sheet.specs.TransitionSystem.{planOf}
+use Rattle.calculus.specs.Decode.{formula}
 
 -- the context that gives every variable the empty set; the rule of a sheet has no free variable: "A variable node stands below its
 -- binder."
@@ -14,4 +15,5 @@ emptyContext X t = false
 
 -- Table 1's verdict of the sheet s: the number is that of a state, and the state is in the meaning of the rule
 unfoldable pub Verdict : List ℕ → ℕ → Type 0
-Verdict s state = (state < stateCount (planBody s)) × Holds (planOf (planBody s)) (formula (actionsBody s) (ruleBody s) 0) emptyContext state
+Verdict s state =
+    (state < stateCount (planBody s)) × Holds (planOf (planBody s)) (formula (actionsBody s) (ruleBody s) 0) emptyContext state

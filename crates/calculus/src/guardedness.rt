@@ -10,8 +10,8 @@ use sheet::rule::node;
 ghost use mathlib.Core.Path.{_≡_};
 ghost use lib.Dec.{ltb};
 ghost use Rattle.sheet.specs.Rule.{binderNode};
-ghost use Rattle.calculus.specs.Carried.{Since, GuardedSince};
-ghost use Rattle.calculus.specs.Guard.{guardOf, reportedGuard, guardingOf};
+ghost use Rattle.calculus.specs.internal.GuardContracts.{Since, GuardedSince};
+ghost use Rattle.calculus.specs.GuardCheck.{guardOf, reportedGuard, guardReportOf};
 
 // Whether the node that binds variable k stands before node first.
 fn bound_before(rule: &[u8], k: Variable, first: Node) -> bool
@@ -50,7 +50,7 @@ fn guarded_since(rule: &[u8], n: Node, first: Node) -> bool
 // Yes or no for an accepted sheet, or its refusal.
 pub fn guard(sheet: &[u8]) -> Guard
     ensures { λ r. ⌜ r ≡ guardOf (now (sheet .entry)) ⌝ }
-    ensures { λ r. ⌜ reportedGuard r ≡ guardingOf (now (sheet .entry)) ⌝ }
+    ensures { λ r. ⌜ reportedGuard r ≡ guardReportOf (now (sheet .entry)) ⌝ }
 {
     let checked = check(sheet);
     match checked {

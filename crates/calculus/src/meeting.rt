@@ -6,11 +6,12 @@ ghost use mathlib.Core.Path.{_≡_};
 ghost use mathlib.Core.Bool.{not, _&&_, _||_};
 ghost use Prim.Native.Nat.{_+_, _<_, _^_, min};
 ghost use lib.Dec.{ltb, leb};
-ghost use Rattle.calculus.specs.Meeting.{bit, maskUpTo, meetingMask};
-ghost use Rattle.calculus.specs.Carried.{Meets};
+ghost use Rattle.calculus.specs.MeetingMask.{bit, maskUpTo, meetingMask};
+ghost use Rattle.calculus.specs.Meaning.{meets};
+ghost use Rattle.calculus.specs.Decode.{actionFormula};
 
-// The bit of an entry.
-pub fn meets(mask: u32, entry: u8) -> bool
+// Whether the mask has the bit of an entry.
+pub fn has_bit(mask: u32, entry: u8) -> bool
     ensures { λ r. ⌜ r ≡ bit mask entry ⌝ }
 {
     if entry < 32 {
@@ -26,7 +27,7 @@ fn power(e: u8) -> u32
     1 << e
 }
 
-fn either(a: bool, b: bool) -> bool
+fn or(a: bool, b: bool) -> bool
     ensures { λ r. ⌜ r ≡ (a || b) ⌝ }
 {
     if a {
@@ -35,7 +36,7 @@ fn either(a: bool, b: bool) -> bool
     b
 }
 
-fn both(a: bool, b: bool) -> bool
+fn and(a: bool, b: bool) -> bool
     ensures { λ r. ⌜ r ≡ (a && b) ⌝ }
 {
     if a {
@@ -45,7 +46,7 @@ fn both(a: bool, b: bool) -> bool
 }
 
 // "Not" is taken among the count actions.
-fn except(action: Action, count: u8, met: bool) -> bool
+fn not_among(action: Action, count: u8, met: bool) -> bool
     ensures { λ r. ⌜ r ≡ (ltb (action .0) count && not met) ⌝ }
 {
     if action.0 < count {
@@ -67,7 +68,7 @@ fn between(action: Action, first: Action, last: Action) -> bool
 // Whether the action meets entry e among the count actions; mask has the bits of the entries before it.
 fn entry_meets(actions: &[u8], e: u8, count: u8, action: Action, mask: u32) -> bool
     requires { ⌜ mask ≡ maskUpTo e count (now actions) (action .0) ⌝ }
-    ensures { λ r. ⌜ Meets count (now (actions .entry)) e (action .0) r ⌝ }
+    ensures { λ r. ⌜ r ≡ meets count (actionFormula (now (actions .entry)) e) (action .0) ⌝ }
 {
     let fields = entry(actions, e);
     let k = fields.kind;
@@ -77,9 +78,9 @@ fn entry_meets(actions: &[u8], e: u8, count: u8, action: Action, mask: u32) -> b
         0 => false,
         1 => action.0 < count,
         2 => action.0 == x,
-        3 => either(meets(mask, x), meets(mask, y)),
-        4 => both(meets(mask, x), meets(mask, y)),
-        5 => except(action, count, meets(mask, x)),
+        3 => or(has_bit(mask, x), has_bit(mask, y)),
+        4 => and(has_bit(mask, x), has_bit(mask, y)),
+        5 => not_among(action, count, has_bit(mask, x)),
         6 => between(action, Action(x), Action(y)),
         _ => false,
     }

@@ -1,47 +1,12 @@
-pub mod Systems
-pub mod Fuel
-pub mod Changed
-pub mod Among
-pub mod Bytes
-pub mod Needs
-pub mod Extension
-pub mod Filling
-pub mod Solver
-pub mod Walks
-pub mod Solved
-pub mod Lists
-pub mod FromCleared
-pub mod Settled
-pub mod Height
-pub mod ClearSteps
-pub mod BindersAbove
-pub mod CellLayout
-pub mod CellRows
-pub mod Ranks
-pub mod RightContexts
-pub mod RowValues
-pub mod Successors
-pub mod Truth
-pub mod ValidCells
-pub mod LoopFree
-pub mod JustCleared
-pub mod SheetLists
-pub mod GuardedNodes
-pub mod Exchange
-pub mod Demand3
-pub mod Examples
-pub mod FieldSteps
-pub mod BinderSteps
-pub mod PrepareSteps
-pub mod QuerySteps
-pub mod Outgoing
-pub mod SearchSteps
-pub mod DecideSteps
-pub mod DecideRows
-pub mod DecideAnswers
-pub mod FollowSteps
-pub mod FollowWalk
-pub mod QueryAnswers
-pub mod Delivered
-pub mod Twelve
-pub mod Solutions
+-- the cells of a sheet: rows, places in the table, ranks
+pub mod cells
+-- the solution of the rows is Table 1
+pub mod truth
+-- exchanging fixed points
+pub mod exchange
+-- clearing and lists of queries
+pub mod lists
+-- the statements of specs/
+pub mod statements
+-- what the code of each function shows
+pub mod steps

@@ -6,21 +6,24 @@ use mathlib.Core.Bool.{Bool, true, false, _&&_}
 use mathlib.Core.List.{List, [], _∷_}
 use lib.Dec.{eqb, ltb}
 use Rattle.sheet.specs.Bytes.{pick}
+use Rattle.sheet.specs.Contents.{planBody, actionsBody, ruleBody}
 use Rattle.sheet.specs.Plan.{stateCount, actionCount}
 use Rattle.sheet.specs.Rule.{nodeCount, nodeKind, nodeX, nodeY, binderCount, binderNode, below}
-use Rattle.calculus.specs.Plans.{Transition}
+use Rattle.sheet.specs.TransitionSystem.{LabelledTransition, planOf}
 use Rattle.calculus.specs.Meaning.{meets}
-use Rattle.calculus.specs.Decode.{planOf, actionFormula, NodeSort, falseNode, trueNode, orNode, andNode, someNode, everyNode, variableNode, leastNode, greatestNode, unknownNode, nodeSort}
-use Rattle.judge.specs.Rows.{Row, disjunction, conjunction}
-use Rattle.judge.specs.Tables.{constant}
+use Rattle.calculus.specs.Decode.{actionFormula, NodeSort, nodeSort, unknownNode}
+use Rattle.calculus.specs.Decode.{falseNode, trueNode, orNode, andNode, someNode, everyNode, variableNode, leastNode, greatestNode}
+use Rattle.rows.specs.Rows.{Row, disjunction, conjunction}
+use Rattle.rows.specs.Tables.{constant}
 
--- "A cell is (mark, node, state)": a boolean variable of the equation system (document 000, Table 2 and Definition 6). "Mark 0: no binder is open. Mark k + 1:
--- binder k and the binders below it are open": a binder is open while no modality was crossed since it was entered.
+-- "A cell is (mark, node, state)": a boolean variable of the equation system (document 000, Table 2 and Definition 6). "Mark 0: no binder
+-- is open. Mark k + 1: binder k and the binders below it are open": a binder is open while no modality was crossed since it was entered.
 pub record Cell : Type 0 where
   pub mark : ℕ
   pub node : ℕ
   pub state : ℕ
 
+-- "(mark, node, state)"
 abbrev pub cell : ℕ → ℕ → ℕ → Cell
 cell m n s = record { mark = m; node = n; state = s }
 
@@ -36,11 +39,11 @@ pub record CellOf (p r : List ℕ) (c : Cell) : Type 0 where
   pub mark-right : MarkRight r (c .mark) (c .node)
 
 -- a row with one entry: "or" and "and" of one cell are the same
-abbrev pub only : Cell → Row Cell
-only c = record { connective = disjunction; entries = c ∷ [] }
+abbrev pub oneEntry : Cell → Row Cell
+oneEntry c = record { connective = disjunction; entries = c ∷ [] }
 
 -- "(0, child, s') for each transition from s to s' whose action meets the formula, in plan order": of the transitions in a list
-unfoldable pub following : ℕ → List ℕ → ℕ → ℕ → ℕ → List Transition → List Cell
+unfoldable pub following : ℕ → List ℕ → ℕ → ℕ → ℕ → List LabelledTransition → List Cell
 following A a e child s [] = []
 following A a e child s (t ∷ ts) =
     pick (eqb (t .origin) s && meets A (actionFormula a e) (t .action)) (cell 0 child (t .target) ∷ following A a e child s ts)
@@ -61,22 +64,33 @@ abbrev pub constantOf : List ℕ → ℕ → Row Cell
 constantOf r b = constant (eqb (nodeKind r b) 8)
 
 module _ (p a r : List ℕ) where
+  -- "the two children, same m, same s"
+  abbrev pub childCells : Cell → List Cell
+  childCells c = cell (c .mark) (nodeX r (c .node)) (c .state) ∷ cell (c .mark) (nodeY r (c .node)) (c .state) ∷ []
+
+  -- "(0, child, s') for each transition from s to s' whose action meets the formula, in plan order"
+  abbrev pub successorCells : Cell → List Cell
+  successorCells c = following (actionCount p) a (nodeX r (c .node)) (nodeY r (c .node)) (c .state) (planOf p .transitions)
+
   -- "For node n at s under mark m the row is": by the kind of n
   abbrev pub rowOf : Cell → NodeSort → Row Cell
   -- "F: empty "or". T: empty "and"."
   rowOf c falseNode = constant false
   rowOf c trueNode = constant true
   -- "or, and: the two children, same m, same s."
-  rowOf c orNode = record { connective = disjunction; entries = cell (c .mark) (nodeX r (c .node)) (c .state) ∷ cell (c .mark) (nodeY r (c .node)) (c .state) ∷ [] }
-  rowOf c andNode = record { connective = conjunction; entries = cell (c .mark) (nodeX r (c .node)) (c .state) ∷ cell (c .mark) (nodeY r (c .node)) (c .state) ∷ [] }
+  rowOf c orNode = record { connective = disjunction; entries = childCells c }
+  rowOf c andNode = record { connective = conjunction; entries = childCells c }
   -- "some, every: an "or" or an "and" of (0, child, s') for each transition from s to s' whose action meets the formula, in plan order."
-  rowOf c someNode = record { connective = disjunction; entries = following (actionCount p) a (nodeX r (c .node)) (nodeY r (c .node)) (c .state) (planOf p .transitions) }
-  rowOf c everyNode = record { connective = conjunction; entries = following (actionCount p) a (nodeX r (c .node)) (nodeY r (c .node)) (c .state) (planOf p .transitions) }
-  -- "variable k: if m = 0 or k < m - 1, the cell (0, node of binder k, s); else an empty "or" for a least, an empty "and" for a greatest fixed point."
-  rowOf c variableNode = pick (outer (nodeX r (c .node)) (c .mark)) (only (cell 0 (binderNode r (nodeX r (c .node))) (c .state))) (constantOf r (binderNode r (nodeX r (c .node))))
+  rowOf c someNode = record { connective = disjunction; entries = successorCells c }
+  rowOf c everyNode = record { connective = conjunction; entries = successorCells c }
+  -- "variable k: if m = 0 or k < m - 1, the cell (0, node of binder k, s); else an empty "or" for a least, an empty "and" for a greatest
+  -- fixed point."
+  rowOf c variableNode =
+      pick (outer (nodeX r (c .node)) (c .mark)) (oneEntry (cell 0 (binderNode r (nodeX r (c .node))) (c .state)))
+      (constantOf r (binderNode r (nodeX r (c .node))))
   -- "binder k: the child at s, under k + 1 if m = 0, else under m."
-  rowOf c leastNode = only (cell (opened (nodeX r (c .node)) (c .mark)) (nodeY r (c .node)) (c .state))
-  rowOf c greatestNode = only (cell (opened (nodeX r (c .node)) (c .mark)) (nodeY r (c .node)) (c .state))
+  rowOf c leastNode = oneEntry (cell (opened (nodeX r (c .node)) (c .mark)) (nodeY r (c .node)) (c .state))
+  rowOf c greatestNode = oneEntry (cell (opened (nodeX r (c .node)) (c .mark)) (nodeY r (c .node)) (c .state))
   -- no node of an accepted sheet
   rowOf c unknownNode = constant false
 
@@ -84,8 +98,12 @@ module _ (p a r : List ℕ) where
   unfoldable pub rows : Cell → Row Cell
   rows c = rowOf c (nodeSort (nodeKind r (c .node)))
 
+-- the rows of a sheet as written
+abbrev pub writtenRows : List ℕ → Cell → Row Cell
+writtenRows s = rows (planBody s) (actionsBody s) (ruleBody s)
+
 -- of an accepted sheet, a chain of rows that starts at a cell from whose state no loop can be reached is shorter (`rank-enough` of
--- proofs/Ranks.antt)
+-- proofs/cells/Ranks.antt)
 abbrev pub enough : ℕ
 enough = 131072
 
@@ -99,21 +117,22 @@ marks r = binderCount r + 1
 abbrev pub cellCount : List ℕ → List ℕ → ℕ
 cellCount p r = stateCount p * nodeCount r * marks r
 
--- "cell (m, n, s) is byte (s × N + n) × (B + 1) + m"
-abbrev pub indexOf : List ℕ → Cell → ℕ
-indexOf r c = (c .state * nodeCount r + c .node) * marks r + c .mark
+-- "the first S × N × (B + 1) bytes": the bytes of the cells of a sheet, one each
+abbrev pub cellBytes : List ℕ → ℕ
+cellBytes s = cellCount (planBody s) (ruleBody s)
 
--- the cell at a byte: the inverse of indexOf on a sheet's cells (`layout` of proofs/CellLayout.antt)
+-- the bytes of a table that has so many bytes of cells: nothing follows the cells
+abbrev pub tableBytesFor : ℕ → ℕ
+tableBytesFor cells = cells
+
+-- the bytes of the whole table of a sheet; "20: table buffer too short"
+abbrev pub tableBytes : List ℕ → ℕ
+tableBytes s = tableBytesFor (cellBytes s)
+
+-- "cell (m, n, s) is byte (s × N + n) × (B + 1) + m"
+abbrev pub positionOf : List ℕ → Cell → ℕ
+positionOf r c = (c .state * nodeCount r + c .node) * marks r + c .mark
+
+-- the cell at a byte: the inverse of positionOf on a sheet's cells (`layout` of proofs/cells/CellLayout.antt)
 abbrev pub cellAt : List ℕ → ℕ → Cell
 cellAt r i = cell (i % marks r) (i / marks r % nodeCount r) (i / marks r / nodeCount r)
-
--- ---- loops of the plan
-
--- the states that transitions of a list lead to from s
-unfoldable pub targets : ℕ → List Transition → List ℕ
-targets s [] = []
-targets s (t ∷ ts) = pick (eqb (t .origin) s) (t .target ∷ targets s ts) (targets s ts)
-
--- the states that the plan's transitions lead to from s
-abbrev pub successors : List ℕ → ℕ → List ℕ
-successors p s = targets s (planOf p .transitions)

@@ -6,8 +6,8 @@ use mathlib.Core.List.{List, [], _∷_}
 use mathlib.Core.Logic.{_↔_}
 use lib.ListN.{length}
 use Rattle.sheet.specs.Writing.{sheetOf}
-use Rattle.calculus.specs.Meeting.{bit}
-use Rattle.calculus.specs.Guard.{guardedRule}
+use Rattle.calculus.specs.MeetingMask.{bit}
+use Rattle.calculus.specs.GuardCheck.{guardedRule}
 use Rattle.calculus.specs.Verdict.{Verdict}
 use Rattle.calculus.specs.KeySheet.{keySheet, K}
 use Rattle.judge.specs.Clearing.{tableCleared}
@@ -54,7 +54,9 @@ greatest-loop = withTrue selfLoop (3 ∷ 8 ∷ 0 ∷ 1 ∷ 5 ∷ 0 ∷ 2 ∷ 6 �
 
 -- "every" with true over F, on a plan of 5 states: 0 has a transition to itself and one to 1, 1 leads to 4, 2 to 3, and 3 to itself
 abbrev pub loops-elsewhere : List ℕ
-loops-elsewhere = withTrue (5 ∷ 1 ∷ 5 ∷ 0 ∷ 0 ∷ 0 ∷ 0 ∷ 0 ∷ 0 ∷ 1 ∷ 1 ∷ 0 ∷ 4 ∷ 2 ∷ 0 ∷ 3 ∷ 3 ∷ 0 ∷ 3 ∷ []) (2 ∷ 5 ∷ 0 ∷ 1 ∷ 0 ∷ 0 ∷ 0 ∷ [])
+loops-elsewhere =
+    withTrue (5 ∷ 1 ∷ 5 ∷ 0 ∷ 0 ∷ 0 ∷ 0 ∷ 0 ∷ 0 ∷ 1 ∷ 1 ∷ 0 ∷ 4 ∷ 2 ∷ 0 ∷ 3 ∷ 3 ∷ 0 ∷ 3 ∷ [])
+    (2 ∷ 5 ∷ 0 ∷ 1 ∷ 0 ∷ 0 ∷ 0 ∷ [])
 
 -- ---- what is said of them
 
@@ -66,12 +68,13 @@ judged verdict visits = record { number = 0; place = 0; verdict = verdict; visit
 abbrev pub refusedBy : ℕ → QueryReport
 refusedBy number = record { number = number; place = 0; verdict = false; visits = 0 }
 
--- the queries of the states, one after the other, on each cleared table of exactly this many bytes, the fewest that the sheet takes, report this
+-- the queries of the states, one after the other, on each cleared table of exactly this many bytes, the fewest that the sheet takes, report
+-- this
 abbrev pub Asked : List ℕ → ℕ → List ℕ → List QueryReport → Type 0
 Asked s size states answers = (t : List ℕ) → length t ≡ size → reports s (tableCleared s t) states ≡ answers
 
 -- "bit s is set exactly when state s is in the meaning of the rule by Table 1 .. Bits from S up are 0."
-pub record Word (s : List ℕ) (word : ℕ) : Type 0 where
+pub record WordMeans (s : List ℕ) (word : ℕ) : Type 0 where
   pub bits : (state : ℕ) → (bit word state ≡ true) ↔ Verdict s state
 
 -- P1 to P11, and a sheet for document 02 (b)
@@ -87,7 +90,7 @@ pub record SheetsToTry : Type 0 where
   -- "P4: K with its first rule node of kind 8, state 2, cleared: true, 8."
   pub p4 : Asked K-greatest 108 (2 ∷ []) (judged true 8 ∷ [])
   -- "P5: K, reference: 3."
-  pub p5 : Word K 3
+  pub p5 : WordMeans K 3
   -- "P6: K is unguarded."
   pub p6 : guardedRule K ≡ false
   -- "P7: least X.X: false, 2 visits.", at state 0
@@ -99,10 +102,12 @@ pub record SheetsToTry : Type 0 where
   -- "P10: "some" with true over T there: false, 1."
   pub p10 : Asked some-true 6 (2 ∷ []) (judged false 1 ∷ [])
   -- "P11: .. least X of "every" true X: reference 0; greatest: 1. A query: 12.", whatever the table
-  pub p11-least : Word least-loop 0
-  pub p11-greatest : Word greatest-loop 1
+  pub p11-least : WordMeans least-loop 0
+  pub p11-greatest : WordMeans greatest-loop 1
   pub p11-query : (t : List ℕ) → reportedQuery (queriedOf least-loop 0 t) ≡ refusedBy 12
   pub p11-query-greatest : (t : List ℕ) → reportedQuery (queriedOf greatest-loop 0 t) ≡ refusedBy 12
   -- Document 02 (b), a sheet of our own: refused are 0 and 3, on a loop, 2, which leads to one, and 5, which the plan doesn't have. 1 and 4
   -- are judged, though a loop leads to 1
-  pub b-loops : Asked loops-elsewhere 10 (0 ∷ 1 ∷ 2 ∷ 3 ∷ 4 ∷ 1 ∷ 5 ∷ []) (refusedBy 12 ∷ judged false 2 ∷ refusedBy 12 ∷ refusedBy 12 ∷ judged true 1 ∷ judged false 0 ∷ refusedBy 11 ∷ [])
+  pub b-loops :
+      Asked loops-elsewhere 10 (0 ∷ 1 ∷ 2 ∷ 3 ∷ 4 ∷ 1 ∷ 5 ∷ [])
+      (refusedBy 12 ∷ judged false 2 ∷ refusedBy 12 ∷ refusedBy 12 ∷ judged true 1 ∷ judged false 0 ∷ refusedBy 11 ∷ [])

@@ -1,10 +1,13 @@
 // The judge: rows of cells, clearing and query.
 pub mod clearing;
 mod deciding;
-mod fields;
-mod prepare;
+mod index;
+mod marks;
+mod packed;
+mod preparing;
 pub mod querying;
-mod searching;
+mod table;
+mod widen;
 
 use sheet::Refusal;
 

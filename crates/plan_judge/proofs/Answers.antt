@@ -8,19 +8,20 @@ use Rattle.judge.specs.Querying.{queriedOf, tableQueried}
 use Rattle.judge.specs.declared.Cleared.the-variants as cleared
 use Rattle.judge.specs.declared.Queried.{Queried}
 use Rattle.judge.specs.declared.Queried.the-variants as queried
-use Rattle.plan_judge.specs.Program.{answerAfter, programOf, tableAfter, tableLeft}
+use Rattle.plan_judge.specs.Program.{answerAfter, programOf, leftAfter, tableLeft}
 
 module _ (s t u : List ℕ) (e : u ≡ tableCleared s t) where
-  pub done : {q : Queried} {v : List ℕ} → clearedOf s t ≡ cleared.Done → q ≡ queriedOf s 0 u → v ≡ tableQueried s 0 u → (q ≡ programOf s t) × (v ≡ tableLeft s t)
+  pub program-queries : {q : Queried} {v : List ℕ} → clearedOf s t ≡ cleared.Done → q ≡ queriedOf s 0 u → v ≡ tableQueried s 0 u
+      → (q ≡ programOf s t) × (v ≡ tableLeft s t)
   unfolding programOf tableLeft
-  done d a b = (
+  program-queries d a b = (
     a ∙ ap (queriedOf s 0) e ∙ sym (ap (answerAfter (queriedOf s 0 (tableCleared s t))) d),
-    b ∙ ap (tableQueried s 0) e ∙ sym (ap (tableAfter (tableQueried s 0 (tableCleared s t)) (tableCleared s t)) d),
+    b ∙ ap (tableQueried s 0) e ∙ sym (ap (leftAfter (tableQueried s 0 (tableCleared s t)) (tableCleared s t)) d),
   )
 
-  pub refused : (r : Refusal) → clearedOf s t ≡ cleared.Refused r → (queried.Refused r ≡ programOf s t) × (u ≡ tableLeft s t)
+  pub program-refuses : (r : Refusal) → clearedOf s t ≡ cleared.Refused r → (queried.Refused r ≡ programOf s t) × (u ≡ tableLeft s t)
   unfolding programOf tableLeft
-  refused r d = (
+  program-refuses r d = (
     sym (ap (answerAfter (queriedOf s 0 (tableCleared s t))) d),
-    e ∙ sym (ap (tableAfter (tableQueried s 0 (tableCleared s t)) (tableCleared s t)) d),
+    e ∙ sym (ap (leftAfter (tableQueried s 0 (tableCleared s t)) (tableCleared s t)) d),
   )

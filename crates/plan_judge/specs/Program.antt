@@ -1,5 +1,5 @@
--- The program: "reads a sheet from standard input, clears, queries state 0". What it answers and what it leaves in the table's buffer, for every list
--- of bytes as sheet and as buffer.
+-- The program: "reads a sheet from standard input, clears, queries state 0". What it answers and what it leaves in the table's buffer,
+-- for every list of bytes as sheet and as buffer.
 use Prim.Native.Nat.{ℕ}
 use mathlib.Core.List.{List}
 use Rattle.judge.specs.Clearing.{clearedOf, tableCleared}
@@ -19,10 +19,10 @@ unfoldable pub programOf : List ℕ → List ℕ → Queried
 programOf s t = answerAfter (queriedOf s 0 (tableCleared s t)) (clearedOf s t)
 
 -- the table after the query, or as clearing left it
-abbrev pub tableAfter : List ℕ → List ℕ → Cleared → List ℕ
-tableAfter left t cleared.Done = left
-tableAfter left t (cleared.Refused r) = t
+abbrev pub leftAfter : List ℕ → List ℕ → Cleared → List ℕ
+leftAfter left t cleared.Done = left
+leftAfter left t (cleared.Refused r) = t
 
 -- the table that the program leaves
 unfoldable pub tableLeft : List ℕ → List ℕ → List ℕ
-tableLeft s t = tableAfter (tableQueried s 0 (tableCleared s t)) (tableCleared s t) (clearedOf s t)
+tableLeft s t = leftAfter (tableQueried s 0 (tableCleared s t)) (tableCleared s t) (clearedOf s t)

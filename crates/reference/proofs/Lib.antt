@@ -1,12 +1,3 @@
-pub mod Words
-pub mod Members
-pub mod Passing
-pub mod Restarting
-pub mod Fixpoints
-pub mod Contexts
-pub mod Clauses
-pub mod Rounds
-pub mod Reached
-pub mod Demand2
-pub mod Answers
-pub mod Sheets
+pub mod words
+pub mod evaluation
+pub mod answers

@@ -1,3 +1,4 @@
 pub mod Reference
 pub mod Demand2
-pub mod Carried
+-- what private functions ask and promise; nobody has to believe it
+pub mod internal

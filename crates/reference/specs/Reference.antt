@@ -1,5 +1,5 @@
--- Document 01, "Reference judge": "It takes a sheet and gives a 64-bit word: bit s is set exactly when state s is in the meaning of the rule by Table
--- 1 .. Bits from S up are 0. Loops are allowed. It may be slow; it ends."
+-- Document 01, "Reference judge": "It takes a sheet and gives a 64-bit word: bit s is set exactly when state s is in the meaning of the
+-- rule by Table 1 .. Bits from S up are 0. Loops are allowed. It may be slow; it ends."
 use Prim.Native.Nat.{ℕ, zero, suc, _+_, _^_, _<_, _≤_}
 use mathlib.Core.Path.{_≡_}
 use mathlib.Core.Bool.{Bool, true}
@@ -15,19 +15,20 @@ use Rattle.sheet.specs.declared.Check.{Check}
 use Rattle.sheet.specs.declared.Check.the-variants.{Passed, Failed}
 use Rattle.sheet.specs.declared.Refusal.{Refusal}
 use Rattle.sheet.specs.declared.Refusal.the-variants.{TooManyStates}
-use Rattle.calculus.specs.Decode.{planOf, formula}
+use Rattle.sheet.specs.TransitionSystem.{planOf}
+use Rattle.calculus.specs.Decode.{formula}
 use Rattle.calculus.specs.Verdict.{emptyContext, Verdict}
-use Rattle.calculus.specs.Meeting.{bit}
+use Rattle.calculus.specs.MeetingMask.{bit}
 use Rattle.calculus.specs.Eval.{eval}
 use Rattle.reference.specs.declared.Reference.{Reference}
 use Rattle.reference.specs.declared.Reference.the-variants.{Word, Refused}
 
--- The states in the meaning of the rule, as a set. `eval` goes by the lines of Table 1, a least fixed point by S rounds from the empty set and a
--- greatest by S rounds from the full set; that this is Table 1's meaning is said by ByTable1 below, which does not speak of it.
+-- The states in the meaning of the rule, as a set. `eval` goes by the lines of Table 1, a least fixed point by S rounds from the empty
+-- set and a greatest by S rounds from the full set; that this is Table 1's meaning is said by ByTable1 below, which does not speak of it.
 unfoldable pub inMeaning : List ℕ → ℕ → Bool
 inMeaning s = eval (planOf (planBody s)) (formula (actionsBody s) (ruleBody s) 0) emptyContext
 
--- the sum of 2 ^ t over the members t of a set below S
+-- "bit s is set exactly when state s is in": the sum of 2 ^ t over the members t of a set below S
 unfoldable pub wordUpTo : ℕ → (ℕ → Bool) → ℕ
 wordUpTo zero U = 0
 wordUpTo (suc t) U = wordUpTo t U + pick (U t) (2 ^ t) 0
@@ -46,29 +47,23 @@ unfoldable pub referenceOf : List ℕ → Reference
 referenceOf s = answerReference s (sheetCheck s)
 
 -- What each answer reports: number, place and the word. "A refused call gives .. word .. 0"; "An accepted call gives number 0 and place 0."
-pub record Referring : Type 0 where
+pub record ReferenceReport : Type 0 where
   pub number : ℕ
   pub place : ℕ
   pub word : ℕ
 
 -- number, place and word of each answer
-abbrev pub reportedReference : Reference → Referring
+abbrev pub reportedReference : Reference → ReferenceReport
 reportedReference (Word w) = record { number = 0; place = 0; word = w }
 reportedReference (Refused r) = record { number = numberOf r; place = placeOf r; word = 0 }
 
--- the report for a sheet, by what the reader's check says of it
-abbrev pub reportReference : List ℕ → Check → Referring
-reportReference s Passed =
-    pick (ltb 64 (stateCount (planBody s))) (record { number = 13; place = 0; word = 0 }) (record { number = 0; place = 0; word = meaningWord s })
-reportReference s (Failed r) = record { number = numberOf r; place = placeOf r; word = 0 }
-
 -- what the reference judge reports for every list of bytes
-unfoldable pub referringOf : List ℕ → Referring
-referringOf s = reportReference s (sheetCheck s)
+abbrev pub referenceReportOf : List ℕ → ReferenceReport
+referenceReportOf s = reportedReference (referenceOf s)
 
--- The same against Table 1 itself: the answer is a word, and "bit s is set exactly when state s is in the meaning of the rule by Table 1 (least: the
--- intersection of all sets that their own image lies inside; greatest: the union of all sets that lie inside their own image). Bits from S up are 0."
--- Verdict holds of no number from S up.
+-- The same against Table 1 itself: the answer is a word, and "bit s is set exactly when state s is in the meaning of the rule by Table 1
+-- (least: the intersection of all sets that their own image lies inside; greatest: the union of all sets that lie inside their own
+-- image). Bits from S up are 0." Verdict holds of no number from S up.
 pub record MeaningWord (s : List ℕ) (r : Reference) : Type 0 where
   pub word : ℕ
   pub is : r ≡ Word word

@@ -7,8 +7,8 @@ ghost use mathlib.Core.Path.{_≡_};
 ghost use Prim.Native.Nat.{_-_, _^_, _<_, _≤_};
 ghost use lib.ListN.{getD, set};
 ghost use lib.Bits.{bitOr};
-ghost use Rattle.calculus.specs.Meeting.{bit};
-ghost use Rattle.reference.specs.Carried.{binderKind, Restarted};
+ghost use Rattle.calculus.specs.MeetingMask.{bit};
+ghost use Rattle.reference.specs.internal.Evaluating.{binderKind, Restarted};
 
 // The set of all states.
 pub(crate) fn all(states: u8) -> u64

@@ -5,8 +5,8 @@ use crate::sets::put;
 use crate::sets::restart;
 use crate::sets::set_of;
 use crate::sets::with_state;
+use calculus::meeting::has_bit;
 use calculus::meeting::meeting;
-use calculus::meeting::meets;
 use sheet::Action;
 use sheet::Node;
 use sheet::Transition;
@@ -21,14 +21,14 @@ ghost use mathlib.Core.Path.{_≡_};
 ghost use mathlib.Core.Bool.{_&&_};
 ghost use Prim.Native.Nat.{_≤_};
 ghost use lib.ListN.{getD};
-ghost use Rattle.calculus.specs.Meeting.{bit};
+ghost use Rattle.calculus.specs.MeetingMask.{bit};
 ghost use Rattle.sheet.specs.Plan.{stateCount};
-ghost use Rattle.sheet.specs.Rules.{PlanKept};
-ghost use Rattle.reference.specs.Carried.{Masks, Steps, Evaluating, Means};
+ghost use Rattle.sheet.specs.WellFormed.{WellFormedPlan};
+ghost use Rattle.reference.specs.internal.Evaluating.{ActionMasks, Preimage, Evaluating, Evaluated};
 
 // For each action the action formulas that it meets, a bit for each entry.
 pub(crate) fn meetings(actions: &[u8], count: u8) -> [u32; 256]
-    ensures { λ r. ⌜ Masks (now (actions .entry)) count r ⌝ }
+    ensures { λ r. ⌜ ActionMasks (now (actions .entry)) count r ⌝ }
 {
     let mut masks: [u32; 256] = [0; 256];
     let mut a: u8 = 0;
@@ -50,7 +50,7 @@ fn mask_of(masks: &[u32; 256], a: Action) -> u32
 fn leads(masks: &[u32; 256], entry: u8, states: u64, t: Transition) -> bool
     ensures { λ r. ⌜ r ≡ (bit (getD (now (masks .entry)) (t .action .0) 0) entry && bit states (t .to .0)) ⌝ }
 {
-    if meets(mask_of(masks, t.action), entry) {
+    if has_bit(mask_of(masks, t.action), entry) {
         return has(states, t.to);
     }
     false
@@ -58,8 +58,8 @@ fn leads(masks: &[u32; 256], entry: u8, states: u64, t: Transition) -> bool
 
 // The states with a transition whose action meets the formula into the set.
 fn some(plan: &[u8], masks: &[u32; 256], entry: u8, states: u64) -> u64
-    requires { ⌜ (stateCount (now plan) ≤ 64) × PlanKept (now plan) ⌝ }
-    ensures { λ r. ⌜ Steps (now (plan .entry)) (now (masks .entry)) entry states r ⌝ }
+    requires { ⌜ (stateCount (now plan) ≤ 64) × WellFormedPlan (now plan) ⌝ }
+    ensures { λ r. ⌜ Preimage (now (plan .entry)) (now (masks .entry)) entry states r ⌝ }
 {
     let count = transition_count(plan);
     let mut found: u64 = 0;
@@ -81,7 +81,7 @@ fn some(plan: &[u8], masks: &[u32; 256], entry: u8, states: u64) -> u64
 // first. When a fixed point has moved, those of its own kind inside it move the same way and go on from where they were; those of the other kind start anew.
 pub(crate) fn evaluate(sheet: &[u8], masks: &[u32; 256], n: Node, context: &mut [u64; 6]) -> u64
     requires { ⌜ Evaluating (now sheet) (now masks) (n .0) (now context) ⌝ }
-    ensures { λ r. ⌜ Means (now (sheet .entry)) (n .0) (now (context .entry)) (now (context .exit)) r ⌝ }
+    ensures { λ r. ⌜ Evaluated (now (sheet .entry)) (n .0) (now (context .entry)) (now (context .exit)) r ⌝ }
 {
     let plan = plan_body(sheet);
     let rule = rule_body(sheet);

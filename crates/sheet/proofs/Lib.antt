@@ -1,22 +1,14 @@
-pub mod Lowest
-pub mod Sizes
-pub mod Order
-pub mod Entries
-pub mod Checks
-pub mod Parts
-pub mod Extents
-pub mod Binders
-pub mod PlanAccepted
-pub mod ActionsAccepted
-pub mod RuleAccepted
-pub mod Accepted
-pub mod RoundTrip
-pub mod Rows
-pub mod Lengths
-pub mod Longest
-pub mod CheckSteps
-pub mod NodeSteps
-pub mod PartSteps
-pub mod SheetSteps
-pub mod WriteSteps
-pub mod Promises
+-- tests, checks and loops that seek the lowest number
+pub mod checks
+-- the nodes of a rule: shapes, subtrees, children, binders
+pub mod nodes
+-- a sheet is accepted exactly where it is well formed, and what an accepted one is made of
+pub mod acceptance
+-- sheet and bodies turn into each other without change
+pub mod roundtrip
+-- the smallest and the longest sheet
+pub mod limits
+-- the plan as a labelled transition system
+pub mod TransitionSystem
+-- what the steps of the code show
+pub mod steps

@@ -1,6 +1,6 @@
 -- Document 01, "Kind 2, action formulas", with kind 6 of document 02 (a), "Stretches of actions": a stretch is a range of action numbers.
--- What the formulas mean ("Not" is taken among the A actions) is in the crate calculus. The definitions speak of the body's bytes; actions is A,
--- the plan's number of actions.
+-- What the formulas mean ("Not" is taken among the A actions) is in the crate calculus. The definitions speak of the body's bytes; actions
+-- is A, the plan's number of actions.
 use Prim.Native.Nat.{ℕ, _+_, _*_}
 use mathlib.Core.Bool.{Bool, false, not, _&&_}
 use mathlib.Core.List.{List}
@@ -8,16 +8,19 @@ use lib.ListN.{length}
 use lib.Dec.{eqb, ltb, leb}
 use Rattle.sheet.specs.Bytes.{byte, pick, lowest}
 
--- "Count (1 byte, 0 to 32), then entries of kind, x, y."
+-- "Count (1 byte, 0 to 32)"
 abbrev pub entryCount : List ℕ → ℕ
 entryCount a = byte a 0
 
+-- "then entries of kind, x, y": the kind of entry e
 abbrev pub entryKind : List ℕ → ℕ → ℕ
 entryKind a e = byte a (1 + 3 * e)
 
+-- its x
 abbrev pub entryX : List ℕ → ℕ → ℕ
 entryX a e = byte a (2 + 3 * e)
 
+-- its y
 abbrev pub entryY : List ℕ → ℕ → ℕ
 entryY a e = byte a (3 + 3 * e)
 

@@ -13,8 +13,8 @@ abbrev pub word : List ℕ → ℕ → ℕ
 word s i = byte s i + 256 * byte s (i + 1)
 
 -- the size bytes from offset on, or as many as there are
-abbrev pub part : List ℕ → ℕ → ℕ → List ℕ
-part s offset size = take size (drop offset s)
+abbrev pub slice : List ℕ → ℕ → ℕ → List ℕ
+slice s offset size = take size (drop offset s)
 
 -- if b then x else y
 abbrev pub pick : {A : Type 0} → Bool → A → A → A

@@ -5,7 +5,7 @@ use mathlib.Core.Bool.{Bool, _&&_}
 use mathlib.Core.List.{List}
 use lib.ListN.{length}
 use lib.Dec.{eqb, leb}
-use Rattle.sheet.specs.Bytes.{byte, word, part}
+use Rattle.sheet.specs.Bytes.{byte, word, slice}
 
 -- "Byte 0 is 1 (edition), byte 1 is 3 (entries)."
 unfoldable pub headingRight : List ℕ → Bool
@@ -19,20 +19,23 @@ headLength = 17
 abbrev pub longest : ℕ
 longest = 6455
 
--- the lengths that the three entries state, each in the last two of the entry's 5 bytes
+-- "length (16 bits)", the last two of an entry's 5 bytes: of the first entry, from byte 2 on
 abbrev pub planLength : List ℕ → ℕ
 planLength s = word s 5
 
+-- of the second entry, from byte 7 on
 abbrev pub actionsLength : List ℕ → ℕ
 actionsLength s = word s 10
 
+-- of the third entry, from byte 12 on
 abbrev pub ruleLength : List ℕ → ℕ
 ruleLength s = word s 15
 
--- "The first body starts at 17, each next one where the one before ends"
+-- "The first body starts at 17, each next one where the one before ends": the actions start where the plan ends
 abbrev pub actionsOffset : List ℕ → ℕ
 actionsOffset s = headLength + planLength s
 
+-- and the rule where the actions end
 abbrev pub ruleOffset : List ℕ → ℕ
 ruleOffset s = actionsOffset s + actionsLength s
 
@@ -40,23 +43,22 @@ ruleOffset s = actionsOffset s + actionsLength s
 unfoldable pub entryIs : List ℕ → ℕ → ℕ → ℕ → Bool
 entryIs s at kind offset = eqb (byte s at) kind && eqb (word s (at + 1)) offset
 
--- the body that the entry at a byte tells of: "offset (16 bits), length (16 bits)"
-abbrev pub bodyAt : List ℕ → ℕ → List ℕ
-bodyAt s at = part s (word s (at + 1)) (word s (at + 3))
-
--- "Their kinds are 1, 2, 3 in that order", the bodies follow one another, "and the file ends with the last"; no file is longer than the longest sheet
+-- "Their kinds are 1, 2, 3 in that order", the bodies follow one another, "and the file ends with the last"; no file is longer than the
+-- longest sheet
 unfoldable pub contentsRight : List ℕ → Bool
 contentsRight s =
     entryIs s 2 1 headLength &&
     (entryIs s 7 2 (actionsOffset s) &&
     (entryIs s 12 3 (ruleOffset s) && (eqb (length s) (ruleOffset s + ruleLength s) && leb (length s) longest)))
 
--- the three bodies: "Kind 1, plan", "Kind 2, action formulas", "Kind 3, rule"
+-- the body of "Kind 1, plan"
 abbrev pub planBody : List ℕ → List ℕ
-planBody s = part s headLength (planLength s)
+planBody s = slice s headLength (planLength s)
 
+-- of "Kind 2, action formulas"
 abbrev pub actionsBody : List ℕ → List ℕ
-actionsBody s = part s (actionsOffset s) (actionsLength s)
+actionsBody s = slice s (actionsOffset s) (actionsLength s)
 
+-- of "Kind 3, rule"
 abbrev pub ruleBody : List ℕ → List ℕ
-ruleBody s = part s (ruleOffset s) (ruleLength s)
+ruleBody s = slice s (ruleOffset s) (ruleLength s)

@@ -1,5 +1,6 @@
--- "A state number and a node number are both small, and one never stands for the other in any call": states, nodes, actions and variables have a type each.
--- The fields of a transition, an action entry and a node, as the values that calls hand over. Past the end of a body every byte is 0.
+-- "A state number and a node number are both small, and one never stands for the other in any call": states, nodes, actions and variables
+-- have a type each. The fields of a transition, an action entry and a node, as the values that calls hand over. Past the end of a body
+-- every byte is 0.
 use Prim.Native.Nat.{ℕ, _+_, _*_}
 use mathlib.Core.List.{List}
 use Rattle.sheet.specs.Plan.{origin, label, target}

@@ -3,11 +3,11 @@ pub mod Contents
 pub mod Plan
 pub mod Actions
 pub mod Rule
-pub mod Rules
+pub mod WellFormed
 pub mod Fields
+pub mod TransitionSystem
 pub mod Refusals
 pub mod Reading
 pub mod Writing
--- what private functions ask and promise; it need not be believed
-pub mod Order
-pub mod Parts
+-- what private functions ask and promise; nobody has to believe it
+pub mod internal

@@ -1,4 +1,5 @@
--- Document 01, "Kind 1, plan": a labelled transition system. "States that nothing leads to are allowed": no rule speaks of them. The definitions speak of the body's bytes.
+-- Document 01, "Kind 1, plan": a labelled transition system. "States that nothing leads to are allowed": no rule speaks of them. The
+-- definitions speak of the body's bytes.
 use Prim.Native.Nat.{ℕ, zero, suc, _+_, _*_}
 use mathlib.Core.Bool.{Bool, true, not, _&&_, _||_}
 use mathlib.Core.List.{List}
@@ -6,23 +7,27 @@ use lib.ListN.{length}
 use lib.Dec.{eqb, ltb, leb}
 use Rattle.sheet.specs.Bytes.{byte, word, lowest}
 
--- "S (1 byte, 1 to 128 states), A (1 byte, 0 to 255 actions), T (16 bits, 0 to 2,048)"
+-- "S (1 byte, 1 to 128 states)"
 abbrev pub stateCount : List ℕ → ℕ
 stateCount p = byte p 0
 
+-- "A (1 byte, 0 to 255 actions)"
 abbrev pub actionCount : List ℕ → ℕ
 actionCount p = byte p 1
 
+-- "T (16 bits, 0 to 2,048)"
 abbrev pub transitionCount : List ℕ → ℕ
 transitionCount p = word p 2
 
--- "then T transitions of three bytes: from, action, to"
+-- "then T transitions of three bytes: from, action, to": the state that transition i leads from
 abbrev pub origin : List ℕ → ℕ → ℕ
 origin p i = byte p (4 + 3 * i)
 
+-- its action
 abbrev pub label : List ℕ → ℕ → ℕ
 label p i = byte p (5 + 3 * i)
 
+-- the state that it leads to
 abbrev pub target : List ℕ → ℕ → ℕ
 target p i = byte p (6 + 3 * i)
 

@@ -4,12 +4,14 @@ use mathlib.Core.List.{List}
 use lib.ListN.{length}
 use lib.Dec.{eqb, leb}
 use Rattle.sheet.specs.Refusals.{numberOf, placeOf, require, andThen}
-use Rattle.sheet.specs.Contents.{headLength, headingRight, contentsRight, planLength, actionsLength, ruleLength, actionsOffset, ruleOffset, planBody, actionsBody, ruleBody}
+use Rattle.sheet.specs.Contents.{headLength, headingRight, contentsRight, planBody, actionsBody, ruleBody}
+use Rattle.sheet.specs.Contents.{planLength, actionsLength, ruleLength, actionsOffset, ruleOffset}
 use Rattle.sheet.specs.Plan.{planSized, lowestTransition, transitionCount, actionCount}
 use Rattle.sheet.specs.Actions.{actionsSized, lowestEntry, entryCount}
 use Rattle.sheet.specs.Rule.{ruleSized, syntaxFault, lowestBinding, nodeCount}
 use Rattle.sheet.specs.declared.Bodies.{Bodies}
-use Rattle.sheet.specs.declared.Refusal.the-variants.{TooShort, Heading, Contents, PlanSize, TransitionFault, ActionsSize, EntryFault, RuleSize, SyntaxFault, BindingFault}
+use Rattle.sheet.specs.declared.Refusal.the-variants.{TooShort, Heading, Contents, PlanSize, TransitionFault}
+use Rattle.sheet.specs.declared.Refusal.the-variants.{ActionsSize, EntryFault, RuleSize, SyntaxFault, BindingFault}
 use Rattle.sheet.specs.declared.Check.{Check}
 use Rattle.sheet.specs.declared.Check.the-variants.{Passed, Failed}
 use Rattle.sheet.specs.declared.Read.{Read}
@@ -53,17 +55,17 @@ bodiesOf s = record {
   rule = record { offset = ruleOffset s; length = ruleLength s };
 }
 
+-- "The reader gives each body's offset and length", or the refusal
 abbrev pub answerRead : Bodies → Check → Read
 answerRead b Passed = Accepted b
 answerRead b (Failed r) = Refused r
 
--- the answer for every list of bytes
+-- what the reader answers for every list of bytes
 unfoldable pub readOf : List ℕ → Read
 readOf s = answerRead (bodiesOf s) (sheetCheck s)
 
--- What each answer reports: number, place, and each body's offset and length. On a refusal "offsets, lengths .. 0"; "An accepted call gives number 0
--- and place 0."
-pub record Reading : Type 0 where
+-- what the reader reports: number, place, and each body's offset and length
+pub record ReadReport : Type 0 where
   pub number : ℕ
   pub place : ℕ
   pub bodies : Bodies
@@ -76,14 +78,11 @@ noBodies = record {
   rule = record { offset = 0; length = 0 };
 }
 
-abbrev pub reported : Read → Reading
-reported (Accepted b) = record { number = 0; place = 0; bodies = b }
-reported (Refused r) = record { number = numberOf r; place = placeOf r; bodies = noBodies }
+-- "An accepted call gives number 0 and place 0."; on a refusal its number and place
+abbrev pub reportedRead : Read → ReadReport
+reportedRead (Accepted b) = record { number = 0; place = 0; bodies = b }
+reportedRead (Refused r) = record { number = numberOf r; place = placeOf r; bodies = noBodies }
 
 -- what the reader reports for every list of bytes
-abbrev pub report : Bodies → Check → Reading
-report b Passed = record { number = 0; place = 0; bodies = b }
-report b (Failed r) = record { number = numberOf r; place = placeOf r; bodies = noBodies }
-
-unfoldable pub readingOf : List ℕ → Reading
-readingOf s = report (bodiesOf s) (sheetCheck s)
+abbrev pub readReportOf : List ℕ → ReadReport
+readReportOf s = reportedRead (readOf s)

@@ -3,7 +3,9 @@ use Prim.Native.Nat.{ℕ}
 use mathlib.Core.Bool.{Bool}
 use Rattle.sheet.specs.Bytes.{pick}
 use Rattle.sheet.specs.declared.Refusal.{Refusal}
-use Rattle.sheet.specs.declared.Refusal.the-variants.{TooShort, Heading, Contents, PlanSize, TransitionFault, ActionsSize, EntryFault, RuleSize, SyntaxFault, BindingFault, NoSuchState, Loop, TooManyStates, TableShort, TableByte, OutputShort}
+use Rattle.sheet.specs.declared.Refusal.the-variants.{TooShort, Heading, Contents, PlanSize, TransitionFault}
+use Rattle.sheet.specs.declared.Refusal.the-variants.{ActionsSize, EntryFault, RuleSize, SyntaxFault, BindingFault}
+use Rattle.sheet.specs.declared.Refusal.the-variants.{NoSuchState, Loop, TooManyStates, TableShort, TableByte, OutputShort}
 use Rattle.sheet.specs.declared.Check.{Check}
 use Rattle.sheet.specs.declared.Check.the-variants.{Passed, Failed}
 
@@ -43,8 +45,9 @@ numberOf TableByte = 21
 -- "22: output buffer too short (calls that write a sheet or a body)."
 numberOf OutputShort = 22
 
--- "The place is the lowest faulty transition, entry or node for 5, 7, 10; for 9 the first fault met in preorder, a second child's number being looked
--- at after the first child's part, a node left over being faulty itself, a missing child the fault of its parent. Other places are 0."
+-- "The place is the lowest faulty transition, entry or node for 5, 7, 10; for 9 the first fault met in preorder, a second child's number
+-- being looked at after the first child's part, a node left over being faulty itself, a missing child the fault of its parent. Other places
+-- are 0."
 abbrev pub placeOf : Refusal → ℕ
 placeOf TooShort = 0
 placeOf Heading = 0
@@ -63,7 +66,7 @@ placeOf TableShort = 0
 placeOf TableByte = 0
 placeOf OutputShort = 0
 
--- a rule that is kept, or the refusal of it
+-- a test that passes, or the refusal
 abbrev pub require : Bool → Refusal → Check
 require kept r = pick kept Passed (Failed r)
 
@@ -72,11 +75,12 @@ abbrev pub andThen : Check → Check → Check
 andThen Passed next = next
 andThen (Failed r) next = Failed r
 
--- what a check reports: "An accepted call gives number 0 and place 0."
+-- what a check reports
 pub record CheckReport : Type 0 where
   pub number : ℕ
   pub place : ℕ
 
+-- "An accepted call gives number 0 and place 0."; on a refusal its number and place
 abbrev pub reportedCheck : Check → CheckReport
 reportedCheck Passed = record { number = 0; place = 0 }
 reportedCheck (Failed r) = record { number = numberOf r; place = placeOf r }

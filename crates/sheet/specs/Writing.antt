@@ -1,5 +1,5 @@
 -- The writer: the sheet that three bodies make, and what the writer answers and leaves in the output buffer.
-use Prim.Native.Nat.{ℕ, _+_, _/_, _%_, _<_, _≤_}
+use Prim.Native.Nat.{ℕ, _+_, _/_, _%_}
 use mathlib.Core.List.{List, [], _∷_, _++_}
 use lib.ListN.{length, drop}
 use lib.Dec.{leb}
@@ -10,7 +10,7 @@ use Rattle.sheet.specs.declared.Refusal.the-variants.{OutputShort}
 use Rattle.sheet.specs.declared.Check.{Check}
 use Rattle.sheet.specs.declared.Check.the-variants.{Passed, Failed}
 use Rattle.sheet.specs.declared.Written.{Written}
-use Rattle.sheet.specs.declared.Written.the-variants.{Wrote, Declined}
+use Rattle.sheet.specs.declared.Written.the-variants.{Wrote, Refused}
 
 -- a number below 65,536 as two bytes, "the low byte first"
 abbrev pub twoBytes : ℕ → List ℕ → List ℕ
@@ -33,46 +33,39 @@ sheetOf p a r = head (length p) (length a) (length r) ++ (p ++ (a ++ r))
 abbrev pub sheetLength : List ℕ → List ℕ → List ℕ → ℕ
 sheetLength p a r = headLength + length p + length a + length r
 
--- lengths that two bytes hold, and an output with room for the sheet: what the writer knows when it writes; no promise of a public call cites it
-pub record Room (p a r out : List ℕ) : Type 0 where
-  pub plan-short : length p < 65536
-  pub actions-short : length a < 65536
-  pub rule-short : length r < 65536
-  pub room : sheetLength p a r ≤ length out
-
 -- "the writer 4 to 10, then 22"
 unfoldable pub writeCheck : List ℕ → List ℕ → List ℕ → ℕ → Check
 writeCheck p a r room = andThen (bodiesCheck p a r) (require (leb (sheetLength p a r) room) OutputShort)
 
+-- "gives the length", or the refusal
 abbrev pub answerWritten : ℕ → Check → Written
 answerWritten size Passed = Wrote size
-answerWritten size (Failed r) = Declined r
+answerWritten size (Failed r) = Refused r
 
+-- what the writer answers for every three bodies and every room
 unfoldable pub writtenOf : List ℕ → List ℕ → List ℕ → ℕ → Written
 writtenOf p a r room = answerWritten (sheetLength p a r) (writeCheck p a r room)
 
--- the output buffer: the sheet, and "bytes past it are unchanged"; a refused call "changes no buffer"
+-- the sheet at the front of the output, and "bytes past it are unchanged"; a refused call "changes no buffer"
 abbrev pub leaves : List ℕ → List ℕ → Check → List ℕ
 leaves sheet out Passed = sheet ++ drop (length sheet) out
 leaves sheet out (Failed r) = out
 
+-- the output buffer after the call
 unfoldable pub outputAfter : List ℕ → List ℕ → List ℕ → List ℕ → List ℕ
 outputAfter p a r out = leaves (sheetOf p a r) out (writeCheck p a r (length out))
 
--- what each answer reports: number, place and the length of the sheet written
-pub record Writing : Type 0 where
+-- what the writer reports: number, place and the length of the sheet written
+pub record WriteReport : Type 0 where
   pub number : ℕ
   pub place : ℕ
   pub size : ℕ
 
-abbrev pub reportedWriting : Written → Writing
-reportedWriting (Wrote n) = record { number = 0; place = 0; size = n }
-reportedWriting (Declined r) = record { number = numberOf r; place = placeOf r; size = 0 }
+-- "An accepted call gives number 0 and place 0."; on a refusal its number and place, and "any further result number 0"
+abbrev pub reportedWrite : Written → WriteReport
+reportedWrite (Wrote n) = record { number = 0; place = 0; size = n }
+reportedWrite (Refused r) = record { number = numberOf r; place = placeOf r; size = 0 }
 
 -- what the writer reports for every three bodies and every output
-abbrev pub reportWriting : ℕ → Check → Writing
-reportWriting n Passed = record { number = 0; place = 0; size = n }
-reportWriting n (Failed r) = record { number = numberOf r; place = placeOf r; size = 0 }
-
-unfoldable pub writingOf : List ℕ → List ℕ → List ℕ → ℕ → Writing
-writingOf p a r room = reportWriting (sheetLength p a r) (writeCheck p a r room)
+abbrev pub writeReportOf : List ℕ → List ℕ → List ℕ → ℕ → WriteReport
+writeReportOf p a r room = reportedWrite (writtenOf p a r room)

@@ -2,9 +2,9 @@
 use crate::Check;
 use crate::Fields;
 use crate::Refusal;
-use crate::bytes::byte_at;
-use crate::bytes::fields_at;
-use crate::bytes::narrow_at;
+use crate::decode::byte_at;
+use crate::decode::fields_at;
+use crate::decode::narrow_at;
 ghost use mathlib.Core.Path.{_≡_};
 ghost use mathlib.Core.Bool.{_&&_};
 ghost use Prim.Native.Nat.{_<_};

@@ -1,11 +1,11 @@
 // A sheet is read front to back from its table of contents: a reader stands at an entry of it, and gives the body that the entry tells of.
 use crate::Check;
-use crate::bytes::part_of;
-use crate::bytes::word_at;
-use crate::reader::check_bodies;
+use crate::body_check::check_bodies;
+use crate::decode::slice_of;
+use crate::decode::word_at;
 ghost use mathlib.Core.Path.{_≡_};
 ghost use Prim.Native.Nat.{_+_, _<_};
-ghost use Rattle.sheet.specs.Contents.{bodyAt};
+ghost use Rattle.sheet.specs.internal.Entry.{bodyAt};
 ghost use Rattle.sheet.specs.Reading.{bodiesCheck};
 
 // The sheet that is lent, and the place of an entry in it.
@@ -19,7 +19,7 @@ fn body_at(s: &[u8], at: usize) -> &[u8]
     requires { ⌜ at < 1000 ⌝ }
     ensures { λ r. ⌜ now r ≡ bodyAt (now (s .entry)) at ⌝ }
 {
-    part_of(s, word_at(s, at + 1), word_at(s, at + 3))
+    slice_of(s, word_at(s, at + 1), word_at(s, at + 3))
 }
 
 // A reader at the first entry.

@@ -3,12 +3,18 @@ ghost use mathlib.Core.Path.{_≡_};
 ghost use Rattle.sheet.specs.Refusals.{numberOf, placeOf};
 
 pub mod actions;
-mod bytes;
+mod body_check;
 mod contents;
+mod decode;
 pub mod plan;
 pub mod reader;
 pub mod rule;
 pub mod writer;
+
+// The bytes before the first body, and those of the longest sheet.
+pub const HEAD_LENGTH: usize = 17;
+
+pub const LONGEST: usize = 6455;
 
 // Numbers of states, nodes, actions and variables: one never stands for another.
 pub struct State(pub u8);
@@ -103,29 +109,29 @@ impl Refusal {
     }
 }
 
-// What checking a part of the input gives.
+// What checking the input, or a body of it, gives.
 pub enum Check {
     Passed,
     Failed(Refusal),
 }
 
-// The part of a node, in preorder: the place after it, which may be no node and so is a plain number, or the first faulty node met in it.
+// The subtree of a node, in preorder: the place after it, which may be no node and so is a plain number, or the first faulty node met in it.
 pub(crate) enum Extent {
     Ends(usize),
     Faulty(Node),
 }
 
 // Where a body lies in its sheet.
-pub struct Part {
+pub struct Span {
     pub offset: usize,
     pub length: usize,
 }
 
 // Where the three bodies lie.
 pub struct Bodies {
-    pub plan: Part,
-    pub actions: Part,
-    pub rule: Part,
+    pub plan: Span,
+    pub actions: Span,
+    pub rule: Span,
 }
 
 // What the reader answers.
@@ -137,5 +143,5 @@ pub enum Read {
 // What the writer answers: the length of the sheet that it wrote.
 pub enum Written {
     Wrote(usize),
-    Declined(Refusal),
+    Refused(Refusal),
 }

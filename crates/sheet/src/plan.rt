@@ -4,18 +4,19 @@ use crate::Check;
 use crate::Refusal;
 use crate::State;
 use crate::Transition;
-use crate::bytes::byte_at;
-use crate::bytes::byte_in;
-use crate::bytes::field_at;
-use crate::bytes::narrow_at;
-use crate::bytes::word_at;
+use crate::decode::byte_at;
+use crate::decode::byte_in;
+use crate::decode::field_at;
+use crate::decode::narrow_at;
+use crate::decode::word_at;
 ghost use mathlib.Core.Path.{_≡_};
 ghost use Prim.Native.Nat.{_+_, _*_, _<_, _≤_};
 ghost use lib.ListN.{length};
 ghost use Rattle.sheet.specs.Plan.{stateCount, actionCount, transitionCount, planSized, lowestTransition};
 ghost use Rattle.sheet.specs.Fields.{transitionAt};
-ghost use Rattle.sheet.specs.Order.{stepAt, Stepping};
+ghost use Rattle.sheet.specs.internal.Order.{stepAt, Stepping};
 ghost use Rattle.sheet.specs.Reading.{planCheck};
+ghost use Rattle.sheet.specs.Refusals.{reportedCheck};
 
 // The plan's length, S and T are within their limits.
 fn sized(p: &[u8]) -> bool
@@ -84,14 +85,15 @@ fn lowest_faulty(p: &[u8]) -> usize
 }
 
 // Refusals 4 and 5.
-pub(crate) fn check_plan(p: &[u8]) -> Check
-    ensures { λ r. ⌜ r ≡ planCheck (now (p .entry)) ⌝ }
+pub fn check_plan(plan: &[u8]) -> Check
+    ensures { λ r. ⌜ r ≡ planCheck (now (plan .entry)) ⌝ }
+    ensures { λ r. ⌜ reportedCheck r ≡ reportedCheck (planCheck (now (plan .entry))) ⌝ }
 {
-    if !sized(p) {
+    if !sized(plan) {
         return Check::Failed(Refusal::PlanSize);
     }
-    let i = lowest_faulty(p);
-    if i == word_at(p, 2) {
+    let i = lowest_faulty(plan);
+    if i == word_at(plan, 2) {
         Check::Passed
     } else {
         Check::Failed(Refusal::TransitionFault(i as u16))

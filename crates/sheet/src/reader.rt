@@ -1,21 +1,20 @@
 // The reader: checks a sheet from front to back and says where its bodies lie.
 use crate::Bodies;
 use crate::Check;
-use crate::Part;
+use crate::HEAD_LENGTH;
+use crate::LONGEST;
 use crate::Read;
 use crate::Refusal;
-use crate::actions::check_actions;
-use crate::bytes::byte_at;
-use crate::bytes::part_of;
-use crate::bytes::word_at;
+use crate::Span;
 use crate::contents::check_in_order;
-use crate::plan::check_plan;
-use crate::rule::check_rule;
+use crate::decode::byte_at;
+use crate::decode::slice_of;
+use crate::decode::word_at;
 ghost use mathlib.Core.Path.{_≡_};
 ghost use Prim.Native.Nat.{_<_};
 ghost use Rattle.sheet.specs.Refusals.{reportedCheck};
 ghost use Rattle.sheet.specs.Contents.{headingRight, entryIs, contentsRight, planBody, actionsBody, ruleBody};
-ghost use Rattle.sheet.specs.Reading.{bodiesCheck, sheetCheck, bodiesOf, readOf, reported, readingOf};
+ghost use Rattle.sheet.specs.Reading.{sheetCheck, bodiesOf, readOf, reportedRead, readReportOf};
 
 fn heading_right(s: &[u8]) -> bool
     ensures { λ r. ⌜ r ≡ headingRight (now (s .entry)) ⌝ }
@@ -39,10 +38,10 @@ fn entry_is(s: &[u8], at: usize, kind: usize, offset: usize) -> bool
 fn contents_right(s: &[u8]) -> bool
     ensures { λ r. ⌜ r ≡ contentsRight (now (s .entry)) ⌝ }
 {
-    if !entry_is(s, 2, 1, 17) {
+    if !entry_is(s, 2, 1, HEAD_LENGTH) {
         return false;
     }
-    let actions = 17 + word_at(s, 5);
+    let actions = HEAD_LENGTH + word_at(s, 5);
     if !entry_is(s, 7, 2, actions) {
         return false;
     }
@@ -53,45 +52,28 @@ fn contents_right(s: &[u8]) -> bool
     if s.len() != rule + word_at(s, 15) {
         return false;
     }
-    s.len() <= 6455
-}
-
-// Refusals 4 to 10.
-pub(crate) fn check_bodies(p: &[u8], a: &[u8], r: &[u8]) -> Check
-    ensures { λ c. ⌜ c ≡ bodiesCheck (now (p .entry)) (now (a .entry)) (now (r .entry)) ⌝ }
-{
-    let plan = check_plan(p);
-    match plan {
-        Check::Failed(x) => Check::Failed(x),
-        Check::Passed => {
-            let actions = check_actions(byte_at(p, 1), a);
-            match actions {
-                Check::Failed(x) => Check::Failed(x),
-                Check::Passed => check_rule(byte_at(a, 0), r),
-            }
-        }
-    }
+    s.len() <= LONGEST
 }
 
 // The bodies of an accepted sheet: from 17 on, one after another, by the lengths that the table of contents states. These do not check the sheet.
 pub fn plan_body(sheet: &[u8]) -> &[u8]
     ensures { λ r. ⌜ now r ≡ planBody (now (sheet .entry)) ⌝ }
 {
-    part_of(sheet, 17, word_at(sheet, 5))
+    slice_of(sheet, HEAD_LENGTH, word_at(sheet, 5))
 }
 
 pub fn actions_body(sheet: &[u8]) -> &[u8]
     ensures { λ r. ⌜ now r ≡ actionsBody (now (sheet .entry)) ⌝ }
 {
-    part_of(sheet, 17 + word_at(sheet, 5), word_at(sheet, 10))
+    slice_of(sheet, HEAD_LENGTH + word_at(sheet, 5), word_at(sheet, 10))
 }
 
 pub fn rule_body(sheet: &[u8]) -> &[u8]
     ensures { λ r. ⌜ now r ≡ ruleBody (now (sheet .entry)) ⌝ }
 {
-    part_of(
+    slice_of(
         sheet,
-        17 + word_at(sheet, 5) + word_at(sheet, 10),
+        HEAD_LENGTH + word_at(sheet, 5) + word_at(sheet, 10),
         word_at(sheet, 15),
     )
 }
@@ -101,7 +83,7 @@ pub fn check(sheet: &[u8]) -> Check
     ensures { λ c. ⌜ c ≡ sheetCheck (now (sheet .entry)) ⌝ }
     ensures { λ c. ⌜ reportedCheck c ≡ reportedCheck (sheetCheck (now (sheet .entry))) ⌝ }
 {
-    if sheet.len() < 17 {
+    if sheet.len() < HEAD_LENGTH {
         return Check::Failed(Refusal::TooShort);
     }
     if !heading_right(sheet) {
@@ -120,16 +102,16 @@ fn bodies_of(sheet: &[u8]) -> Bodies
     let actions = word_at(sheet, 10);
     let rule = word_at(sheet, 15);
     Bodies {
-        plan: Part {
-            offset: 17,
+        plan: Span {
+            offset: HEAD_LENGTH,
             length: plan,
         },
-        actions: Part {
-            offset: 17 + plan,
+        actions: Span {
+            offset: HEAD_LENGTH + plan,
             length: actions,
         },
-        rule: Part {
-            offset: 17 + plan + actions,
+        rule: Span {
+            offset: HEAD_LENGTH + plan + actions,
             length: rule,
         },
     }
@@ -138,7 +120,7 @@ fn bodies_of(sheet: &[u8]) -> Bodies
 // Number, place, and each body's offset and length.
 pub fn read(sheet: &[u8]) -> Read
     ensures { λ r. ⌜ r ≡ readOf (now (sheet .entry)) ⌝ }
-    ensures { λ r. ⌜ reported r ≡ readingOf (now (sheet .entry)) ⌝ }
+    ensures { λ r. ⌜ reportedRead r ≡ readReportOf (now (sheet .entry)) ⌝ }
 {
     let checked = check(sheet);
     match checked {

@@ -6,15 +6,16 @@ use crate::Node;
 use crate::Refusal;
 use crate::Variable;
 use crate::actions::both_zero;
-use crate::bytes::byte_at;
-use crate::bytes::fields_at;
-use crate::bytes::narrow_at;
+use crate::decode::byte_at;
+use crate::decode::fields_at;
+use crate::decode::narrow_at;
 ghost use mathlib.Core.Path.{_≡_};
 ghost use mathlib.Core.Bool.{_&&_};
 ghost use Prim.Native.Nat.{_+_, _<_, _≤_};
 ghost use lib.Dec.{eqb, ltb};
-ghost use Rattle.sheet.specs.Rule.{nodeCount, binderCount, bindersAbove, ruleSized, nodeKind, nodeX, nodeY, childIs, syntaxFault, isBinder, bindersBefore, binderNode, partEnd, below, bindingFaulty, lowestBinding};
-ghost use Rattle.sheet.specs.Parts.{NodeOf, Ended};
+ghost use Rattle.sheet.specs.Rule.{nodeCount, binderCount, bindersAbove, ruleSized, nodeKind, nodeX, nodeY, childIs, syntaxFault, isBinder, bindersBefore, binderNode, subtreeEnd, below, bindingFaulty, lowestBinding};
+ghost use Rattle.sheet.specs.internal.Counting.{BindersCounted};
+ghost use Rattle.sheet.specs.internal.Subtrees.{NodeOf, Ended};
 ghost use Rattle.sheet.specs.Fields.{fieldsAt};
 ghost use Rattle.sheet.specs.Reading.{ruleCheck};
 
@@ -95,8 +96,8 @@ fn modal_right(r: &[u8], entries: usize, n: Node) -> bool
     false
 }
 
-// The part of node n: each kind takes its own course.
-fn node_part(r: &[u8], entries: usize, n: Node) -> Extent
+// The subtree of node n: each kind takes its own course.
+fn subtree_from(r: &[u8], entries: usize, n: Node) -> Extent
     requires { ⌜ NodeOf (now r) (n .0) ⌝ }
     ensures { λ x. ⌜ Ended entries (now (r .entry)) (n .0) x ⌝ }
 {
@@ -112,12 +113,12 @@ fn node_part(r: &[u8], entries: usize, n: Node) -> Extent
         }
         2..=3 => {
             if x_is_child(r, n, next) {
-                let first = node_part(r, entries, Node(n.0 + 1));
+                let first = subtree_from(r, entries, Node(n.0 + 1));
                 match first {
                     Extent::Faulty(m) => Extent::Faulty(m),
                     Extent::Ends(e) => {
                         if y_is_child(r, n, e) {
-                            node_part(r, entries, Node(e as u8))
+                            subtree_from(r, entries, Node(e as u8))
                         } else {
                             Extent::Faulty(n)
                         }
@@ -129,7 +130,7 @@ fn node_part(r: &[u8], entries: usize, n: Node) -> Extent
         }
         4..=5 => {
             if modal_right(r, entries, n) {
-                node_part(r, entries, Node(n.0 + 1))
+                subtree_from(r, entries, Node(n.0 + 1))
             } else {
                 Extent::Faulty(n)
             }
@@ -143,7 +144,7 @@ fn node_part(r: &[u8], entries: usize, n: Node) -> Extent
         }
         7..=8 => {
             if y_is_child(r, n, next) {
-                node_part(r, entries, Node(n.0 + 1))
+                subtree_from(r, entries, Node(n.0 + 1))
             } else {
                 Extent::Faulty(n)
             }
@@ -157,7 +158,7 @@ fn syntax_fault(r: &[u8], entries: usize) -> usize
     requires { ⌜ NodeOf (now r) 0 ⌝ }
     ensures { λ n. ⌜ (n ≡ syntaxFault entries (now (r .entry))) × (n ≤ 64) ⌝ }
 {
-    let whole = node_part(r, entries, Node(0));
+    let whole = subtree_from(r, entries, Node(0));
     match whole {
         Extent::Faulty(m) => m.0 as usize,
         Extent::Ends(e) => e,
@@ -167,7 +168,7 @@ fn syntax_fault(r: &[u8], entries: usize) -> usize
 // How many binders stand among the first n nodes.
 fn binders_before(r: &[u8], n: usize) -> usize
     requires { ⌜ n < 256 ⌝ }
-    ensures { λ b. ⌜ (b ≡ bindersBefore (now (r .entry)) n) × (b ≤ n) ⌝ }
+    ensures { λ b. ⌜ BindersCounted (now (r .entry)) n b ⌝ }
 {
     let mut binders = 0;
     let mut at = 0;
@@ -188,10 +189,10 @@ fn is_binder_of(r: &[u8], n: Node, binders: usize, k: Variable) -> bool
     false
 }
 
-// The place just after node n's part, where its last child's part ends: it may be no node, and on bytes that are no rule the way to it may
+// The place just after node n's subtree, where its last child's subtree ends: it may be no node, and on bytes that are no rule the way to it may
 // pass places that are none, so these stay plain numbers.
-fn end_of(r: &[u8], n: Node) -> usize
-    ensures { λ e. ⌜ e ≡ partEnd (now (r .entry)) (n .0) ⌝ }
+fn subtree_end(r: &[u8], n: Node) -> usize
+    ensures { λ e. ⌜ e ≡ subtreeEnd (now (r .entry)) (n .0) ⌝ }
 {
     let mut at = n.0 as usize;
     let mut left: usize = 64;
@@ -257,8 +258,8 @@ fn lowest_faulty(r: &[u8]) -> usize
 
 // How many binders stand among node n and those before it; binders is the number before it.
 fn binders_with(r: &[u8], n: Node, binders: usize) -> usize
-    requires { ⌜ (binders ≡ bindersBefore (now r) (n .0)) × (binders ≤ n .0) ⌝ }
-    ensures { λ b. ⌜ (b ≡ bindersBefore (now (r .entry)) (n .0 + 1)) × (b ≤ n .0 + 1) ⌝ }
+    requires { ⌜ BindersCounted (now r) (n .0) binders ⌝ }
+    ensures { λ b. ⌜ BindersCounted (now (r .entry)) (n .0 + 1) b ⌝ }
 {
     if is_binder(r, n) {
         return binders + 1;
@@ -339,7 +340,7 @@ pub fn is_below(rule: &[u8], b: Node, n: Node) -> bool
     ensures { λ r. ⌜ r ≡ below (now (rule .entry)) (b .0) (n .0) ⌝ }
 {
     if b.0 < n.0 {
-        return (n.0 as usize) < end_of(rule, b);
+        return (n.0 as usize) < subtree_end(rule, b);
     }
     false
 }

@@ -1,22 +1,24 @@
 // The writer: three bodies become one sheet in a lent buffer.
 use crate::Check;
+use crate::HEAD_LENGTH;
 use crate::Refusal;
 use crate::Written;
-use crate::reader::check_bodies;
+use crate::body_check::check_bodies;
 ghost use mathlib.Core.Path.{_≡_};
 ghost use Prim.Native.Nat.{_+_, _≤_, _<_};
 ghost use mathlib.Core.List.{_++_};
 ghost use lib.ListN.{length, drop};
 ghost use lib.Seq.{paste};
-ghost use Rattle.sheet.specs.Writing.{head, sheetOf, sheetLength, Room, writtenOf, reportedWriting, writingOf, outputAfter};
+ghost use Rattle.sheet.specs.Writing.{head, sheetOf, sheetLength, writtenOf, reportedWrite, writeReportOf, outputAfter};
+ghost use Rattle.sheet.specs.internal.Room.{Room};
 
 // The first 17 bytes of a sheet whose bodies have these lengths.
 fn head_of(p: usize, a: usize, r: usize) -> [u8; 17]
     requires { ⌜ (p < 65536) × ((a < 65536) × (r < 65536)) ⌝ }
     ensures { λ h. ⌜ h ≡ head p a r ⌝ }
 {
-    let second = 17 + p;
-    let third = 17 + p + a;
+    let second = HEAD_LENGTH + p;
+    let third = HEAD_LENGTH + p + a;
     [
         1,
         3,
@@ -43,11 +45,7 @@ fn copy_at(out: &mut [u8], at: usize, src: &[u8])
     requires { ⌜ at + length (now src) ≤ length (now out) ⌝ }
     ensures { λ _. ⌜ now (out .exit) ≡ paste (now (out .entry)) at (now (src .entry)) (length (now (src .entry))) ⌝ }
 {
-    let mut i = 0;
-    while i < src.len() {
-        out[at + i] = src[i];
-        i += 1;
-    }
+    bytes::copy(src, &mut out[at..at + src.len()]);
 }
 
 // The sheet of three bodies, at the front of an output that has room for it.
@@ -57,24 +55,24 @@ fn put_sheet(p: &[u8], a: &[u8], r: &[u8], out: &mut [u8])
 {
     let head = head_of(p.len(), a.len(), r.len());
     copy_at(out, 0, &head);
-    copy_at(out, 17, p);
-    copy_at(out, 17 + p.len(), a);
-    copy_at(out, 17 + p.len() + a.len(), r);
+    copy_at(out, HEAD_LENGTH, p);
+    copy_at(out, HEAD_LENGTH + p.len(), a);
+    copy_at(out, HEAD_LENGTH + p.len() + a.len(), r);
 }
 
 // The sheet of three bodies, at the front of out, and its length; or the refusal, with out unchanged.
 pub fn write(plan: &[u8], actions: &[u8], rule: &[u8], out: &mut [u8]) -> Written
     ensures { λ r. ⌜ r ≡ writtenOf (now (plan .entry)) (now (actions .entry)) (now (rule .entry)) (length (now (out .entry))) ⌝ }
-    ensures { λ r. ⌜ reportedWriting r ≡ writingOf (now (plan .entry)) (now (actions .entry)) (now (rule .entry)) (length (now (out .entry))) ⌝ }
+    ensures { λ r. ⌜ reportedWrite r ≡ writeReportOf (now (plan .entry)) (now (actions .entry)) (now (rule .entry)) (length (now (out .entry))) ⌝ }
     ensures { λ _. ⌜ now (out .exit) ≡ outputAfter (now (plan .entry)) (now (actions .entry)) (now (rule .entry)) (now (out .entry)) ⌝ }
 {
     let checked = check_bodies(plan, actions, rule);
     match checked {
-        Check::Failed(x) => Written::Declined(x),
+        Check::Failed(x) => Written::Refused(x),
         Check::Passed => {
-            let length = 17 + plan.len() + actions.len() + rule.len();
+            let length = HEAD_LENGTH + plan.len() + actions.len() + rule.len();
             if out.len() < length {
-                return Written::Declined(Refusal::OutputShort);
+                return Written::Refused(Refusal::OutputShort);
             }
             put_sheet(plan, actions, rule, out);
             Written::Wrote(length)

@@ -1,6 +1,7 @@
 // Request 2: the guard check of a blob.
 use crate::input;
-use crate::input::Word;
+use crate::input::Buffer;
+use crate::input::Number;
 use crate::output;
 use calculus::Guard;
 
@@ -20,10 +21,10 @@ fn guard(sheet: &[u8]) {
     output::end_line();
 }
 
-pub fn answer(sheet: &mut [u8; 65536]) -> bool {
-    let Word::Got(n) = input::read_blob(sheet) else {
+pub fn answer(sheet: &mut Buffer) -> bool {
+    let Number::Got(n) = input::read_blob(sheet) else {
         return false;
     };
-    guard(input::part(sheet, n));
+    guard(input::prefix(sheet, n));
     true
 }

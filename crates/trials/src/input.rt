@@ -1,20 +1,23 @@
-// Operands from standard input: a byte, a 16-bit word, a blob.
+// Operands from standard input: a byte, a 16-bit number, a blob.
 use libc::STDIN_FILENO;
 ghost use Prim.Native.Nat.{_≤_};
 ghost use lib.ListN.{length};
+
+// Room for a blob of any length that 16 bits allow.
+pub type Buffer = [u8; 65536];
 
 pub enum Byte {
     Got(u8),
     Ended,
 }
 
-// A word, or a blob by its length.
-pub enum Word {
+// A 16-bit number, or a blob by its length.
+pub enum Number {
     Got(u16),
     Ended,
 }
 
-fn word_of(low: u8, high: u8) -> u16 {
+fn number_of(low: u8, high: u8) -> u16 {
     low as u16 + 256 * (high as u16)
 }
 
@@ -27,13 +30,13 @@ pub fn read_byte() -> Byte {
     Byte::Got(one[0])
 }
 
-pub fn read_word() -> Word {
+pub fn read_number() -> Number {
     let mut two = [0u8; 2];
     let n = io::read_full(STDIN_FILENO, &mut two);
     if n < 2 {
-        return Word::Ended;
+        return Number::Ended;
     }
-    Word::Got(word_of(two[0], two[1]))
+    Number::Got(number_of(two[0], two[1]))
 }
 
 fn read_start(buf: &mut [u8], n: usize) -> usize
@@ -43,32 +46,32 @@ fn read_start(buf: &mut [u8], n: usize) -> usize
 }
 
 // n bytes, put at the start of buf.
-pub fn read_bytes(buf: &mut [u8; 65536], n: u16) -> Word {
+pub fn read_bytes(buf: &mut Buffer, n: u16) -> Number {
     let got = read_start(buf, n as usize);
     if got < n as usize {
-        return Word::Ended;
+        return Number::Ended;
     }
-    Word::Got(n)
+    Number::Got(n)
 }
 
 // A blob: its length, and its bytes at the start of buf.
-pub fn read_blob(buf: &mut [u8; 65536]) -> Word {
-    let length = read_word();
+pub fn read_blob(buf: &mut Buffer) -> Number {
+    let length = read_number();
     match length {
-        Word::Got(n) => read_bytes(buf, n),
-        Word::Ended => Word::Ended,
+        Number::Got(n) => read_bytes(buf, n),
+        Number::Ended => Number::Ended,
     }
 }
 
 // The first n bytes of buf.
-pub fn part(buf: &[u8; 65536], n: u16) -> &[u8] {
+pub fn prefix(buf: &Buffer, n: u16) -> &[u8] {
     let k = n as usize;
     let whole = &buf[..];
     &whole[0..k]
 }
 
 // Sets the first n bytes of buf to b.
-pub fn fill(buf: &mut [u8; 65536], n: u16, b: u8) {
+pub fn fill(buf: &mut Buffer, n: u16, b: u8) {
     let k = n as usize;
     let mut i = 0;
     while i < k {

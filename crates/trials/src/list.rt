@@ -1,7 +1,8 @@
 // Request 4: a table is lent to clearing, then to each query of a list.
 use crate::input;
+use crate::input::Buffer;
 use crate::input::Byte;
-use crate::input::Word;
+use crate::input::Number;
 use crate::output;
 use crate::query::query;
 use crate::query::write_table;
@@ -41,24 +42,24 @@ fn list_start(sheet: &[u8], states: &[u8], buf: &mut [u8], n: usize)
 }
 
 // Lends the first n bytes of buf.
-fn list_on(sheet: &[u8], states: &[u8], buf: &mut [u8; 65536], n: u16) {
+fn list_on(sheet: &[u8], states: &[u8], buf: &mut Buffer, n: u16) {
     list_start(sheet, states, buf, n as usize);
 }
 
-pub fn answer(sheet: &mut [u8; 65536], states: &mut [u8; 65536], table: &mut [u8; 65536]) -> bool {
-    let Word::Got(s) = input::read_blob(sheet) else {
+pub fn answer(sheet: &mut Buffer, states: &mut Buffer, table: &mut Buffer) -> bool {
+    let Number::Got(s) = input::read_blob(sheet) else {
         return false;
     };
-    let Word::Got(n) = input::read_word() else {
+    let Number::Got(n) = input::read_number() else {
         return false;
     };
     let Byte::Got(b) = input::read_byte() else {
         return false;
     };
-    let Word::Got(q) = input::read_blob(states) else {
+    let Number::Got(q) = input::read_blob(states) else {
         return false;
     };
     input::fill(table, n, b);
-    list_on(input::part(sheet, s), input::part(states, q), table, n);
+    list_on(input::prefix(sheet, s), input::prefix(states, q), table, n);
     true
 }

@@ -8,16 +8,12 @@ mod read;
 mod refer;
 mod write;
 
+use input::Buffer;
 use input::Byte;
 
 // Answers one request of the number given; false where the input cuts it short or the number is unknown. The buffers hold what an earlier request left:
 // a request lends the calls only bytes that it has read or filled.
-fn answer(
-    number: u8,
-    first: &mut [u8; 65536],
-    second: &mut [u8; 65536],
-    third: &mut [u8; 65536],
-) -> bool {
+fn answer(number: u8, first: &mut Buffer, second: &mut Buffer, third: &mut Buffer) -> bool {
     match number {
         1 => read::answer(first),
         2 => guard::answer(first),
@@ -29,7 +25,7 @@ fn answer(
     }
 }
 
-fn next(first: &mut [u8; 65536], second: &mut [u8; 65536], third: &mut [u8; 65536]) -> bool {
+fn next(first: &mut Buffer, second: &mut Buffer, third: &mut Buffer) -> bool {
     let number = input::read_byte();
     match number {
         Byte::Got(n) => answer(n, first, second, third),

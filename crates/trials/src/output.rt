@@ -51,16 +51,21 @@ fn low(b: u8) -> u8 {
     digit(b % 16)
 }
 
+// Bytes are written as two digits each, so many bytes at once.
+const CHUNK: usize = 2048;
+
+type Digits = [u8; 2 * CHUNK];
+
 // How many of the bytes left are written at once.
 fn chunk(left: usize) -> usize
     requires { ⌜ 0 < left ⌝ }
     ensures { λ r. ⌜ (0 < r) × ((r ≤ left) × (r ≤ 2048)) ⌝ }
 {
-    if left < 2048 { left } else { 2048 }
+    if left < CHUNK { left } else { CHUNK }
 }
 
 // Puts the digits of n bytes of s from index `from` on at the start of digits.
-fn spell(s: &[u8], from: usize, n: usize, digits: &mut [u8; 4096])
+fn spell(s: &[u8], from: usize, n: usize, digits: &mut Digits)
     requires { ⌜ (from + n ≤ length (now s)) × (n ≤ 2048) ⌝ }
 {
     let mut i = 0;
@@ -72,15 +77,15 @@ fn spell(s: &[u8], from: usize, n: usize, digits: &mut [u8; 4096])
     }
 }
 
-fn text_start(digits: &[u8; 4096], n: usize)
+fn text_start(digits: &Digits, n: usize)
     requires { ⌜ n ≤ 4096 ⌝ }
 {
     let whole = &digits[..];
     text(&whole[0..n]);
 }
 
-// Writes at most 2,048 bytes of s from index `from` on, and answers how many.
-fn hex_part(s: &[u8], from: usize) -> usize
+// Writes at most CHUNK bytes of s from index `from` on, and answers how many.
+fn hex_chunk(s: &[u8], from: usize) -> usize
     requires { ⌜ from < length (now s) ⌝ }
     ensures { λ r. ⌜ (0 < r) × (from + r ≤ length (now (s .entry))) ⌝ }
 {
@@ -96,6 +101,6 @@ pub fn hex(s: &[u8]) {
     text(b" ");
     let mut from = 0;
     while from < s.len() {
-        from += hex_part(s, from);
+        from += hex_chunk(s, from);
     }
 }

@@ -1,7 +1,8 @@
 // Request 5: one query on a table as given.
 use crate::input;
+use crate::input::Buffer;
 use crate::input::Byte;
-use crate::input::Word;
+use crate::input::Number;
 use crate::output;
 use judge::Queried;
 use sheet::State;
@@ -45,20 +46,20 @@ fn query_start(sheet: &[u8], state: State, buf: &mut [u8], n: usize)
 }
 
 // Lends the query the first n bytes of buf.
-fn query_on(sheet: &[u8], state: State, buf: &mut [u8; 65536], n: u16) {
+fn query_on(sheet: &[u8], state: State, buf: &mut Buffer, n: u16) {
     query_start(sheet, state, buf, n as usize);
 }
 
-pub fn answer(sheet: &mut [u8; 65536], table: &mut [u8; 65536]) -> bool {
-    let Word::Got(s) = input::read_blob(sheet) else {
+pub fn answer(sheet: &mut Buffer, table: &mut Buffer) -> bool {
+    let Number::Got(s) = input::read_blob(sheet) else {
         return false;
     };
     let Byte::Got(b) = input::read_byte() else {
         return false;
     };
-    let Word::Got(n) = input::read_blob(table) else {
+    let Number::Got(n) = input::read_blob(table) else {
         return false;
     };
-    query_on(input::part(sheet, s), State(b), table, n);
+    query_on(input::prefix(sheet, s), State(b), table, n);
     true
 }

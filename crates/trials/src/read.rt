@@ -1,24 +1,25 @@
 // Request 1: a blob is read as a sheet.
 use crate::input;
-use crate::input::Word;
+use crate::input::Buffer;
+use crate::input::Number;
 use crate::output;
 use sheet::Bodies;
-use sheet::Part;
 use sheet::Read;
+use sheet::Span;
 
-fn write_part(p: Part) {
-    output::number(p.offset as u64);
-    output::number(p.length as u64);
+fn write_span(s: Span) {
+    output::number(s.offset as u64);
+    output::number(s.length as u64);
 }
 
 fn write_bodies(b: Bodies) {
-    write_part(b.plan);
-    write_part(b.actions);
-    write_part(b.rule);
+    write_span(b.plan);
+    write_span(b.actions);
+    write_span(b.rule);
 }
 
-fn empty_part() -> Part {
-    Part {
+fn empty_span() -> Span {
+    Span {
         offset: 0,
         length: 0,
     }
@@ -34,18 +35,18 @@ fn read(sheet: &[u8]) {
         }
         Read::Refused(r) => {
             output::refused(r);
-            write_part(empty_part());
-            write_part(empty_part());
-            write_part(empty_part());
+            write_span(empty_span());
+            write_span(empty_span());
+            write_span(empty_span());
         }
     }
     output::end_line();
 }
 
-pub fn answer(sheet: &mut [u8; 65536]) -> bool {
-    let Word::Got(n) = input::read_blob(sheet) else {
+pub fn answer(sheet: &mut Buffer) -> bool {
+    let Number::Got(n) = input::read_blob(sheet) else {
         return false;
     };
-    read(input::part(sheet, n));
+    read(input::prefix(sheet, n));
     true
 }

@@ -1,12 +1,13 @@
 // Request 3: the reference judge on a blob.
 use crate::input;
-use crate::input::Word;
+use crate::input::Buffer;
+use crate::input::Number;
 use crate::output;
 use reference::Reference;
 
 fn refer(sheet: &[u8]) {
     output::text(b"reference");
-    let answer = reference::referring::reference(sheet);
+    let answer = reference::judging::reference(sheet);
     match answer {
         Reference::Word(w) => {
             output::accepted();
@@ -20,10 +21,10 @@ fn refer(sheet: &[u8]) {
     output::end_line();
 }
 
-pub fn answer(sheet: &mut [u8; 65536]) -> bool {
-    let Word::Got(n) = input::read_blob(sheet) else {
+pub fn answer(sheet: &mut Buffer) -> bool {
+    let Number::Got(n) = input::read_blob(sheet) else {
         return false;
     };
-    refer(input::part(sheet, n));
+    refer(input::prefix(sheet, n));
     true
 }

@@ -1,7 +1,8 @@
 // Request 6: three blobs are written as a sheet.
 use crate::input;
+use crate::input::Buffer;
 use crate::input::Byte;
-use crate::input::Word;
+use crate::input::Number;
 use crate::output;
 use sheet::Written;
 ghost use Prim.Native.Nat.{_≤_};
@@ -14,7 +15,7 @@ fn write_length(w: Written) {
             output::accepted();
             output::number(n as u64);
         }
-        Written::Declined(r) => {
+        Written::Refused(r) => {
             output::refused(r);
             output::number(0);
         }
@@ -37,22 +38,22 @@ fn write_start(plan: &[u8], actions: &[u8], rule: &[u8], buf: &mut [u8], n: usiz
 }
 
 // Lends the writer the first n bytes of buf.
-fn write_to(plan: &[u8], actions: &[u8], rule: &[u8], buf: &mut [u8; 65536], n: u16) {
+fn write_to(plan: &[u8], actions: &[u8], rule: &[u8], buf: &mut Buffer, n: u16) {
     write_start(plan, actions, rule, buf, n as usize);
 }
 
-pub fn answer(plan: &mut [u8; 65536], actions: &mut [u8; 65536], rule: &mut [u8; 65536]) -> bool {
+pub fn answer(plan: &mut Buffer, actions: &mut Buffer, rule: &mut Buffer) -> bool {
     let mut out = io::large_buffer();
-    let Word::Got(p) = input::read_blob(plan) else {
+    let Number::Got(p) = input::read_blob(plan) else {
         return false;
     };
-    let Word::Got(a) = input::read_blob(actions) else {
+    let Number::Got(a) = input::read_blob(actions) else {
         return false;
     };
-    let Word::Got(r) = input::read_blob(rule) else {
+    let Number::Got(r) = input::read_blob(rule) else {
         return false;
     };
-    let Word::Got(n) = input::read_word() else {
+    let Number::Got(n) = input::read_number() else {
         return false;
     };
     let Byte::Got(b) = input::read_byte() else {
@@ -60,9 +61,9 @@ pub fn answer(plan: &mut [u8; 65536], actions: &mut [u8; 65536], rule: &mut [u8;
     };
     input::fill(&mut out, n, b);
     write_to(
-        input::part(plan, p),
-        input::part(actions, a),
-        input::part(rule, r),
+        input::prefix(plan, p),
+        input::prefix(actions, a),
+        input::prefix(rule, r),
         &mut out,
         n,
     );

@@ -293,33 +293,67 @@ fn load() -> String {
     format!("{} on {cores} cores", text.split(' ').next().filter(|v| !v.is_empty()).unwrap_or("unknown"))
 }
 
+/// A paragraph of at most 100 columns; what stands in backticks is not broken.
+fn paragraph(text: &str) -> String {
+    let mut out = String::new();
+    let mut column = 0;
+    let mut word = String::new();
+    for piece in text.split_whitespace() {
+        if !word.is_empty() {
+            word.push(' ');
+        }
+        word += piece;
+        if word.matches('`').count() % 2 == 1 {
+            continue;
+        }
+        let length = word.chars().count();
+        if column > 0 && column + 1 + length > 100 {
+            out.push('\n');
+            column = 0;
+        } else if column > 0 {
+            out.push(' ');
+            column += 1;
+        }
+        out += &word;
+        column += length;
+        word.clear();
+    }
+    out + "\n\n"
+}
+
 fn page(rows: &[Row], missing: &[&str], start: &[f64], start_time: &[f64], each: &[f64], load: &str) -> String {
     let mut o = String::new();
     o += "# Benchmark: the trial driver against a plain Rust program\n\n";
-    o += "Made by one command, in `tests/differential` (this page and the plot are written anew by it):\n\n";
+    o += &paragraph("Made by one command, in `tests/differential` (this page and the plot are written anew by it):");
     o += "    cargo run --release --offline -- bench ../../target/bin/trials\n\n";
-    o += "Both programs are processes that read the same stored requests (`target/release/bench/*.stdin`) on standard input and\n\
-          write the same lines; the command checks that they do. The driver is the compiled Rattle program. The Rust program is\n\
-          `differential serve`, the implementation that the differential tests compare with: linear reading, a successor index,\n\
-          one mask for each action formula, the lent table as its memo; each call takes a sheet and reads it, as in the driver.\n\n";
-    o += "Sheets grow in every part: n states, about 16 n transitions of 4 actions, 8 action entries of any kind, n / 2 nodes, 1 to 6 binders\n\
-          (reference: at most 2 binders, some transitions back, and n up to 64). Each figure is for one request, the mean over 4\n\
-          sheets about the upper quarter, by the work they make, of 60 made at random. A query's figure is that of the request less that of the same request with no query (clearing and writing out\n\
-          the table); the others are less that of the same request with a sheet of no bytes. Instructions are those of\n\
-          `valgrind --tool=callgrind`; times are the shortest of 9 runs, the programs taking turns, and \"in the noise\" stands\n\
-          where what is left after taking away is under 15% of what was measured.\n\n";
-    let _ = writeln!(
-        o,
-        "An empty run: driver {} instructions and {:.2} ms, Rust {} and {:.2} ms. A request with a sheet of no bytes, which is\n\
-         not in the figures below: driver {} instructions, Rust {}. Processor: {};\n\
-         load average when the runs began: {load}. Other work on the machine lengthens times, not instructions.\n",
-        grouped(start[0]), start_time[0] * 1e3, grouped(start[1]), start_time[1] * 1e3, grouped(each[0]), grouped(each[1]), cpu()
+    o += &paragraph(
+        "Both programs are processes that read the same stored requests (`target/release/bench/*.stdin`)
+        on standard input and write the same lines; the command checks that they do. The driver is the
+        compiled Rattle program. The Rust program is `differential serve`, the implementation that the
+        differential tests compare with: linear reading, a successor index, one mask for each action
+        formula, the lent table as its memo; each call takes a sheet and reads it, as in the driver.",
     );
+    o += &paragraph(
+        "Sheets grow in every part: n states, about 16 n transitions of 4 actions, 8 action entries of any
+        kind, n / 2 nodes, 1 to 6 binders (reference: at most 2 binders, some transitions back, and n up to
+        64). Each figure is for one request, the mean over 4 sheets about the upper quarter, by the work
+        they make, of 60 made at random. A query's figure is that of the request less that of the same
+        request with no query (clearing and writing out the table); the others are less that of the same
+        request with a sheet of no bytes. Instructions are those of `valgrind --tool=callgrind`; times are
+        the shortest of 9 runs, the programs taking turns, and \"in the noise\" stands where what is left
+        after taking away is under 15% of what was measured.",
+    );
+    o += &paragraph(&format!(
+        "An empty run: driver {} instructions and {:.2} ms, Rust {} and {:.2} ms. A request with a sheet of
+        no bytes, which is not in the figures below: driver {} instructions, Rust {}. Processor: {}; load
+        average when the runs began: {load}. Other work on the machine lengthens times, not instructions.",
+        grouped(start[0]), start_time[0] * 1e3, grouped(start[1]), start_time[1] * 1e3, grouped(each[0]), grouped(each[1]), cpu()
+    ));
     if !missing.is_empty() {
-        let _ = writeln!(o, "Not measured, since this driver does not answer the request: {}.\n", missing.join(", "));
+        o += &paragraph(&format!("Not measured, since this driver does not answer the request: {}.", missing.join(", ")));
     }
     o += "![Instructions for one request, and their ratio, by the number of states](benchmark.svg)\n\n";
-    o += "\"Growth\" is the factor over the line before, where states, transitions and nodes are half as many.\n\n";
+    o += &paragraph("\"Growth\" is the factor over the line before, where states, transitions and nodes are half as many.");
     o += "| call | states | driver, instructions | growth | Rust, instructions | growth | ratio | driver, us | Rust, us | ratio of time |\n";
     o += "|---|---:|---:|---:|---:|---:|---:|---:|---:|---:|\n";
     for (i, r) in rows.iter().enumerate() {
@@ -332,15 +366,22 @@ fn page(rows: &[Row], missing: &[&str], start: &[f64], start_time: &[f64], each:
             ratio(r.instructions[0], r.instructions[1], true), r.seconds[0] * 1e6, r.seconds[1] * 1e6, ratio(r.seconds[0], r.seconds[1], r.clear)
         );
     }
-    o += "\nEach query of a list reads the sheet again and looks at its whole table for a byte over 2 (refusal 21): S x N x (B + 1)\n\
-          bytes, 57,344 at the largest size, which both programs do many bytes at a step. So a list grows faster than its sheet.\n";
+    o += "\n";
+    o += &paragraph(
+        "Each query of a list reads the sheet again and looks at its whole table for a byte over 2 (refusal
+        21): S × N × (B + 1) bytes, 57,344 at the largest size, which both programs do many bytes at a step.
+        So a list grows faster than its sheet.",
+    );
     let of = |op: usize, n: usize| rows.iter().find(|r| r.op == op && r.size == n);
     let beside: Vec<(&Row, &Row)> = SIZES.iter().filter_map(|&(n, _)| Some((of(0, n)?, of(4, n)?))).collect();
     if !beside.is_empty() {
-        o += "\nBeyond reading the sheet, the driver's query looks at the transitions of the states that can be reached from its own, and at a few\n\
-              others to find where those begin; the Rust program indexes all transitions first. No transition leaves an end state: what its\n\
-              query takes beyond the reading is for the rule, for the table's bytes and for a few rows. Beside the reading of the same\n\
-              sheets, in instructions:\n\n";
+        o += &paragraph(
+            "Beyond reading the sheet, the driver's query looks at the transitions of the states that can be
+            reached from its own, and at a few others to find where those begin; the Rust program indexes all
+            transitions first. No transition leaves an end state: what its query takes beyond the reading is
+            for the rule, for the table's bytes and for a few rows. Beside the reading of the same sheets, in
+            instructions:",
+        );
         o += "| states | driver, reading | driver, query of an end state | ratio | Rust, reading | Rust, query of an end state | ratio |\n";
         o += "|---:|---:|---:|---:|---:|---:|---:|\n";
         for (read, end) in beside {
@@ -352,7 +393,8 @@ fn page(rows: &[Row], missing: &[&str], start: &[f64], start_time: &[f64], each:
             o += "\n";
         }
     }
-    o
+    o.truncate(o.trim_end().len());
+    o + "\n"
 }
 
 fn plot(rows: &[Row]) -> String {

@@ -2,7 +2,7 @@
 use borrow.Author.Needs.{needs}
 use mathlib.Core.Path.{sym, _∙_}
 use denote.Ref.{now}
-use Rattle.plan_judge.proofs.Answers.{done, refused}
+use Rattle.plan_judge.proofs.Answers.{program-queries, program-refuses}
 use Rattle.plan_judge.proofs.judge_start.Statement.{statement}
 use Rattle.plan_judge.proofs.judge_start.Tie as tie
 
@@ -22,10 +22,12 @@ same-length : tie.Need-same-length
 same-length c = search needs
 
 returns : tie.Need-returns
-returns c = let a = c .before .before .before .before .before .before .before .before .before .before .before .before .args in
-    let cleared = c .before .before .before .before .before .before .before .before .clear in
-    done (now (a .sheet)) (now (a .table)) _ (cleared .ensures .1 .1) (sym (cleared .ensures .0) ∙ c .before .before .before .before .enum-told .given .1)
-    (c .before .before .query .ensures .0) (c .before .before .query .ensures .1 .1)
+returns c = let queried = c .before .before in
+    let told = queried .before .before in
+    let cleared = told .before .before .before .before in
+    let a = cleared .before .before .before .before .args in
+    program-queries (now (a .sheet)) (now (a .table)) _ (cleared .clear .ensures .1 .1) (sym (cleared .clear .ensures .0) ∙ told .enum-told .given .1)
+    (queried .query .ensures .0) (queried .query .ensures .1 .1)
 
 same-length-2 : tie.Need-same-length-2
 same-length-2 c = search needs
@@ -33,7 +35,7 @@ same-length-2 c = search needs
 returns-2 : tie.Need-returns-2
 returns-2 c = let a = c .before .before .before .before .before .before .before .before .before .args in
     let cleared = c .before .before .before .before .before .clear in
-    refused (now (a .sheet)) (now (a .table)) _ (cleared .ensures .1 .1) _ (sym (cleared .ensures .0) ∙ c .before .cleared .given .1)
+    program-refuses (now (a .sheet)) (now (a .table)) _ (cleared .ensures .1 .1) _ (sym (cleared .ensures .0) ∙ c .before .cleared .given .1)
 
 pub judge-start-spec : {M : Type 1} → statement M
 judge-start-spec =

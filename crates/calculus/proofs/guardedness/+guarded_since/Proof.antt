@@ -4,7 +4,7 @@ use mathlib.Core.Path.{ap, sym}
 use mathlib.Core.Bool.{Bool, _&&_}
 use Prim.Native.Nat.{ℕ, _<_, _-_}
 use Rattle.sheet.specs.Rule.{nodeCount}
-use Rattle.calculus.proofs.GuardSteps.{call-first, call-second, call-modal, call-binder, step-constant, step-pair, step-failed, step-modal, step-variable, step-binder, step-unknown}
+use Rattle.calculus.proofs.definition2.GuardSteps.{call-first, call-second, call-modal, call-binder, step-constant, step-pair, step-failed, step-modal, step-variable, step-binder, step-unknown}
 use borrow.Fn.Kinds.{In}
 use borrow.Fn.PlainCycle.{Measures, is, falls, and}
 use Rattle.calculus.proofs.guardedness.guarded_since.Reads as guarded-since

@@ -1,8 +1,8 @@
 -- `calculus::guardedness::guard` meets its contract.
 use borrow.Author.Needs.{needs}
 use mathlib.Core.Path.{sym, ap, _∙_}
-use Rattle.calculus.specs.Guard.{reportedGuard}
-use Rattle.calculus.proofs.GuardSteps.{guard-start, guard-refused, guard-answered}
+use Rattle.calculus.specs.GuardCheck.{reportedGuard}
+use Rattle.calculus.proofs.definition2.GuardSteps.{guard-start, guard-refused, guard-answered}
 use Rattle.calculus.proofs.guardedness.guard.Statement.{statement}
 use Rattle.calculus.proofs.guardedness.guard.Tie as tie
 

@@ -3,8 +3,8 @@ use Prim.Native.Nat.{ℕ, _≤_, _-_, min}
 use mathlib.Core.Path.{_≡_, ap, _∙_}
 use native.Mathlib.Omega.{arith}
 use Rattle.sheet.specs.Actions.{entryCount}
-use Rattle.calculus.specs.Meeting.{maskUpTo}
-use Rattle.calculus.proofs.Masks.{mask-start, mask-whole}
+use Rattle.calculus.specs.MeetingMask.{maskUpTo}
+use Rattle.calculus.proofs.masks.MeetingMask.{mask-start, mask-whole}
 use Rattle.calculus.proofs.meeting.meeting.Statement.{statement}
 use Rattle.calculus.proofs.meeting.meeting.Tie as tie
 

@@ -1,6 +1,6 @@
 -- `calculus::meeting::with_entry` meets its contract.
 use borrow.Author.Needs.{needs}
-use Rattle.calculus.proofs.Masks.{mask-fits, mask-more, mask-still}
+use Rattle.calculus.proofs.masks.MeetingMask.{mask-fits, mask-more, mask-still}
 use Rattle.calculus.proofs.meeting.with_entry.Statement.{statement}
 use Rattle.calculus.proofs.meeting.with_entry.Tie as tie
 

@@ -6,7 +6,7 @@ use mathlib.Core.List.{_++_}
 use Prim.Native.Nat.{ℕ}
 use lib.ListN.{drop, replicate}
 use denote.Ref.{now}
-use Rattle.judge.proofs.ClearSteps.{refused, short, done}
+use Rattle.judge.proofs.steps.ClearSteps.{clears-refused, clears-short, clears-done}
 use Rattle.judge.proofs.clearing.clear.Statement.{statement}
 use Rattle.judge.proofs.clearing.clear.Tie as tie
 
@@ -19,25 +19,36 @@ enum-known-checked c = search needs
 enum-told : tie.Need-enum-told
 enum-told c = search needs
 
-cell-count-requires : tie.Need-cell-count-requires
-cell-count-requires c κs = search needs
+cell-bytes-requires : tie.Need-cell-bytes-requires
+cell-bytes-requires c κs = search needs
+
+table-bytes-for-requires : tie.Need-table-bytes-for-requires
+table-bytes-for-requires c κs = search needs
 
 returns : tie.Need-returns
-returns c = let a = c .before .before .before .before .before .before .before .args in short (now (a .sheet)) (now (a .table)) (sym (c .before .before .before .before .check .ensures .0) ∙ c .before .before .enum-told .given .1) (omega arith)
+returns c = let told = c .before .before .before in
+    let checked = told .before .before in
+    let a = checked .before .before .before .args in
+    clears-short (now (a .sheet)) (now (a .table)) (sym (checked .check .ensures .0) ∙ told .enum-told .given .1)
+    (omega (arith, c .before .table-bytes-for .ensures, c .before .before .cell-bytes .ensures))
 
 zero-requires : tie.Need-zero-requires
 zero-requires c κs = search needs
 
 returns-2 : tie.Need-returns-2
-returns-2 c = let a = c .before .before .before .before .before .before .args in refused (now (a .sheet)) (now (a .table)) _ (sym (c .before .before .before .check .ensures .0) ∙ c .before .checked .given .1)
+returns-2 c = let a = c .before .before .before .before .before .before .args in clears-refused (now (a .sheet)) (now (a .table)) _ (sym (c .before .before .before .check .ensures .0) ∙ c .before .checked .given .1)
 
 same-length : tie.Need-same-length
 same-length c = search needs
 
 returns-3 : tie.Need-returns-3
-returns-3 c = let a = c .before .before .before .before .before .before .before .before .before .before .before .args in
-    done (now (a .sheet)) (now (a .table)) (sym (c .before .before .before .before .before .before .before .before .check .ensures .0) ∙ c .before .before .before .before .before .before .enum-told .given .1) (omega arith) _
-    (c .before .before .zero .ensures ∙ ap (λ (k : ℕ). replicate k 0 ++ drop k (now (a .table))) (c .before .before .before .before .before .cell-count .ensures))
+returns-3 c = let sized = c .before .before .before .before .before in
+    let told = sized .before .before in
+    let checked = told .before .before in
+    let a = checked .before .before .before .args in
+    let size = sized .table-bytes-for .ensures ∙ sized .before .cell-bytes .ensures in
+    clears-done (now (a .sheet)) (now (a .table)) (sym (checked .check .ensures .0) ∙ told .enum-told .given .1) (omega (arith, size)) _
+    (c .before .before .zero .ensures ∙ ap (λ (k : ℕ). replicate k 0 ++ drop k (now (a .table))) size)
 
 pub clear-spec : {M : Type 1} → statement M
 clear-spec =
@@ -46,7 +57,8 @@ clear-spec =
     check-requires
     enum-known-checked
     enum-told
-    cell-count-requires
+    cell-bytes-requires
+    table-bytes-for-requires
     returns
     zero-requires
     returns-2

@@ -1,13 +1,8 @@
 -- `plan_judge::line::put_line` meets its contract.
 use borrow.Author.Needs.{needs}
-use native.Mathlib.Omega.{arith}
-use mathlib.Core.Path.{sym, ap, _∙_}
-use Prim.Native.Nat.{_≤_}
-use lib.ListN.{length}
-use lib.Seq.{length-take-le}
+use mathlib.Core.Path.{sym}
 use denote.Ref.{now}
-use Rattle.judge.specs.declared.Queried.{Queried}
-use Rattle.plan_judge.specs.Line.{lineOf, putFirst}
+use Rattle.plan_judge.proofs.Lines.{line-counted}
 use Rattle.plan_judge.proofs.line.put_line.Statement.{statement}
 use Rattle.plan_judge.proofs.line.put_line.Tie as tie
 
@@ -27,25 +22,17 @@ same-length : tie.Need-same-length
 same-length c = search needs
 
 returns : tie.Need-returns
-returns c = let a = c .before .before .before .before .before .before .before .before .args in
-    let p = c .before .before .put-verdict in
-    let l : p .result ≤ length (p .last .1 .1 .0) = omega arith in
-    let e = sym (c .before .before .before .before .before .answer .given .1) in (
-      (l, sym (length-take-le _ _ l)),
-      (p .ensures .0 .0 ∙ ap (λ (q : Queried). length (lineOf q)) e, p .ensures .1 ∙ ap (λ (q : Queried). putFirst (now (a .out)) (lineOf q)) e),
-    )
+returns c = let called = c .before .before in
+    let arm = called .before .before .before in
+    line-counted (now (arm .before .before .before .args .out)) (sym (arm .answer .given .1)) (called .put-verdict .ensures)
 
 same-length-2 : tie.Need-same-length-2
 same-length-2 c = search needs
 
 returns-2 : tie.Need-returns-2
-returns-2 c = let a = c .before .before .before .before .before .before .before .before .args in
-    let p = c .before .before .put-refusal in
-    let l : p .result ≤ length (p .last .1 .0) = omega arith in
-    let e = sym (c .before .before .before .before .before .answer2 .given .1) in (
-      (l, sym (length-take-le _ _ l)),
-      (p .ensures .0 .0 ∙ ap (λ (q : Queried). length (lineOf q)) e, p .ensures .1 ∙ ap (λ (q : Queried). putFirst (now (a .out)) (lineOf q)) e),
-    )
+returns-2 c = let called = c .before .before in
+    let arm = called .before .before .before in
+    line-counted (now (arm .before .before .before .args .out)) (sym (arm .answer2 .given .1)) (called .put-refusal .ensures)
 
 pub put-line-spec : {M : Type 1} → statement M
 put-line-spec =

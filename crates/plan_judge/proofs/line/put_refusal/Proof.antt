@@ -1,11 +1,16 @@
 -- `plan_judge::line::put_refusal` meets its contract.
 use borrow.Author.Needs.{needs}
 use native.Mathlib.Omega.{arith}
-use mathlib.Core.Path.{refl, ap}
+use mathlib.Core.Path.{_≡_}
 use mathlib.Core.List.{_++_}
 use denote.Ref.{now}
-use Rattle.plan_judge.specs.Line.{decimalOf, lineFeed, lineOf, refused, space}
-use Rattle.plan_judge.proofs.Texts.{Stands, after}
+use Rattle.judge.specs.declared.Queried.the-variants.{Refused}
+use Rattle.text.specs.Decimal.{decimalOf}
+use Rattle.text.specs.Placing.{placeAfter}
+use Rattle.text.specs.Words.{space, lineFeed, refused}
+use Rattle.text.proofs.Placing.{placed-one, placed-next, placed-at-start}
+use Rattle.plan_judge.specs.Line.{lineOf}
+use Rattle.plan_judge.proofs.Lines.{line-length}
 use Rattle.plan_judge.proofs.line.put_refusal.Statement.{statement}
 use Rattle.plan_judge.proofs.line.put_refusal.Tie as tie
 
@@ -18,11 +23,11 @@ put-requires c κs = search needs
 number-requires : tie.Need-number-requires
 number-requires c κs = search needs
 
-cast-put-number : tie.Need-cast-put-number
-cast-put-number c = search needs
+cast-put-decimal : tie.Need-cast-put-decimal
+cast-put-decimal c = search needs
 
-put-number-requires : tie.Need-put-number-requires
-put-number-requires c κs = search needs
+put-decimal-requires : tie.Need-put-decimal-requires
+put-decimal-requires c κs = search needs
 
 slice-aggregate-put-2 : tie.Need-slice-aggregate-put-2
 slice-aggregate-put-2 c = search needs
@@ -33,11 +38,11 @@ put-requires-2 c κs = search needs
 place-requires : tie.Need-place-requires
 place-requires c κs = search needs
 
-cast-put-number-2 : tie.Need-cast-put-number-2
-cast-put-number-2 c = search needs
+cast-put-decimal-2 : tie.Need-cast-put-decimal-2
+cast-put-decimal-2 c = search needs
 
-put-number-requires-2 : tie.Need-put-number-requires-2
-put-number-requires-2 c κs = search needs
+put-decimal-requires-2 : tie.Need-put-decimal-requires-2
+put-decimal-requires-2 c κs = search needs
 
 slice-aggregate-put-3 : tie.Need-slice-aggregate-put-3
 slice-aggregate-put-3 c = search needs
@@ -50,18 +55,21 @@ same-length c = search needs
 
 returns : tie.Need-returns
 unfolding lineOf
-returns c = let a = c .before .before .before .before .before .before .before .before .before .before .before .before .before .before .before .before .before .before .before .before .before .before .before .before .before .before .args in
-    let word = c .before .before .before .before .before .before .before .before .before .before .before .before .before .before .before .before .before .before .before .before .before .before .put in
-    let number = c .before .before .before .before .before .before .before .before .before .before .before .before .before .before .before .before .before .put-number in
-    let gap = c .before .before .before .before .before .before .before .before .before .before .before .before .put2 in
-    let place = c .before .before .before .before .before .before .before .put-number2 in
-    let end = c .before .before .put3 in
-    let first : Stands (now (a .out)) _ _ (refused ++ space) = record { ends = word .ensures .0; holds = word .ensures .1 } in
-    let second = after (decimalOf _) first (number .ensures .0 .0) (number .ensures .1) (ap decimalOf (c .before .before .before .before .before .before .before .before .before .before .before .before .before .before .before .before .before .before .before .number .ensures)) in
-    let third = after space second (gap .ensures .0) (gap .ensures .1) refl in
-    let fourth = after (decimalOf _) third (place .ensures .0 .0) (place .ensures .1) (ap decimalOf (c .before .before .before .before .before .before .before .before .before .place .ensures)) in
-    let line = after lineFeed fourth (end .ensures .0) (end .ensures .1) refl in
-    ((line .ends, omega (arith, end .ensures .0, place .ensures .0 .1, gap .ensures .0, number .ensures .0 .1, word .ensures .0)), line .holds)
+returns c =
+    let end = c .before .before in
+    let place = end .before .before .before .before .before in
+    let gap = place .before .before .before .before .before in
+    let number = gap .before .before .before .before .before in
+    let word = number .before .before .before .before .before in
+    let start = word .before .before .before .before in
+    let after : word .put .result ≡ placeAfter (refused ++ space) 0 (now (start .args .out)) = word .put .ensures .0 in
+    let first = placed-one (after, word .put .ensures .1) in
+    let second = placed-next (decimalOf (number .before .before .number .result)) first (number .put-decimal .ensures) in
+    let third = placed-next space second (gap .put2 .ensures) in
+    let fourth = placed-next (decimalOf (place .before .before .place .result)) third (place .put-decimal2 .ensures) in
+    let line = placed-next lineFeed fourth (end .put3 .ensures) in
+    let whole = rw (number .before .before .number .ensures, place .before .before .place .ensures) at line in
+    placed-at-start whole (omega (arith, line-length (Refused (start .args .x)), start .pre))
 
 pub put-refusal-spec : {M : Type 1} → statement M
 put-refusal-spec =
@@ -70,13 +78,13 @@ put-refusal-spec =
     slice-aggregate-put
     put-requires
     number-requires
-    cast-put-number
-    put-number-requires
+    cast-put-decimal
+    put-decimal-requires
     slice-aggregate-put-2
     put-requires-2
     place-requires
-    cast-put-number-2
-    put-number-requires-2
+    cast-put-decimal-2
+    put-decimal-requires-2
     slice-aggregate-put-3
     put-requires-3
     same-length

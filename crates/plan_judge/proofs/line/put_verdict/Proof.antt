@@ -1,19 +1,17 @@
 -- `plan_judge::line::put_verdict` meets its contract.
 use borrow.Author.Needs.{needs}
 use native.Mathlib.Omega.{arith}
-use mathlib.Core.Path.{refl}
-use mathlib.Core.List.{_++_}
-use denote.Ref.{now}
-use Rattle.plan_judge.specs.Line.{decimalOf, lineFeed, lineOf, space, wordOf}
-use Rattle.plan_judge.proofs.Texts.{Stands, after}
+use Rattle.judge.specs.declared.Queried.the-variants.{Judged}
+use Rattle.text.specs.Decimal.{decimalOf}
+use Rattle.text.specs.Words.{space, lineFeed}
+use Rattle.text.proofs.Placing.{placed-one, placed-next, placed-at-start}
+use Rattle.plan_judge.specs.Line.{lineOf}
+use Rattle.plan_judge.proofs.Lines.{line-length}
 use Rattle.plan_judge.proofs.line.put_verdict.Statement.{statement}
 use Rattle.plan_judge.proofs.line.put_verdict.Tie as tie
 
-put-word-requires : tie.Need-put-word-requires
-put-word-requires c κs = search needs
-
-put-number-requires : tie.Need-put-number-requires
-put-number-requires c κs = search needs
+put-bool-requires : tie.Need-put-bool-requires
+put-bool-requires c κs = search needs
 
 slice-aggregate-put : tie.Need-slice-aggregate-put
 slice-aggregate-put c = search needs
@@ -21,26 +19,39 @@ slice-aggregate-put c = search needs
 put-requires : tie.Need-put-requires
 put-requires c κs = search needs
 
+put-decimal-requires : tie.Need-put-decimal-requires
+put-decimal-requires c κs = search needs
+
+slice-aggregate-put-2 : tie.Need-slice-aggregate-put-2
+slice-aggregate-put-2 c = search needs
+
+put-requires-2 : tie.Need-put-requires-2
+put-requires-2 c κs = search needs
+
 same-length : tie.Need-same-length
 same-length c = search needs
 
 returns : tie.Need-returns
 unfolding lineOf
-returns c = let a = c .before .before .before .before .before .before .before .before .before .before .before .before .before .before .args in
-    let word = c .before .before .before .before .before .before .before .before .before .before .before .put-word in
-    let number = c .before .before .before .before .before .before .before .put-number in
-    let end = c .before .before .put in
-    let first : Stands (now (a .out)) _ _ (wordOf (a .verdict) ++ space) = record { ends = word .ensures .0 .0; holds = word .ensures .1 } in
-    let line = after lineFeed (after (decimalOf (a .visits)) first (number .ensures .0 .0) (number .ensures .1) refl) (end .ensures .0) (end .ensures .1) refl in
-    ((line .ends, omega (arith, end .ensures .0, number .ensures .0 .1, word .ensures .0 .1)), line .holds)
+returns c =
+    let end = c .before .before in
+    let number = end .before .before .before .before .before in
+    let gap = number .before .before .before .before in
+    let word = gap .before .before .before .before .before in
+    let start = word .before .before .before in
+    let spaced = placed-next space (placed-one (word .put-bool .ensures)) (gap .put .ensures) in
+    let line = placed-next lineFeed (placed-next (decimalOf (start .args .visits)) spaced (number .put-decimal .ensures)) (end .put2 .ensures) in
+    placed-at-start line (omega (arith, line-length (Judged (start .args .verdict) (start .args .visits)), start .pre))
 
 pub put-verdict-spec : {M : Type 1} → statement M
 put-verdict-spec =
     tie.close
     (tie.spec
-    put-word-requires
-    put-number-requires
+    put-bool-requires
     slice-aggregate-put
     put-requires
+    put-decimal-requires
+    slice-aggregate-put-2
+    put-requires-2
     same-length
     returns)

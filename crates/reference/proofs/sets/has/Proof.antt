@@ -2,8 +2,8 @@
 use borrow.Author.Needs.{needs}
 use native.Mathlib.Omega.{arith}
 use mathlib.Core.Path.{sym}
-use Rattle.calculus.specs.Meeting.{bit}
-use Rattle.calculus.proofs.Bits.{bit-high}
+use Rattle.calculus.specs.MeetingMask.{bit}
+use Rattle.calculus.proofs.masks.Bits.{bit-high}
 use Rattle.reference.proofs.sets.has.Statement.{statement}
 use Rattle.reference.proofs.sets.has.Tie as tie
 

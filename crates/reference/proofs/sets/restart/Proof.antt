@@ -1,8 +1,8 @@
 -- `reference::sets::restart` meets its contract. The measure is the number of variables left.
 use Prim.Native.Nat.{_≤_, _-_}
 use native.Mathlib.Omega.{arith}
-use Rattle.reference.specs.Carried.{Restarted}
-use Rattle.reference.proofs.Restarting.{restart-none, restart-more, restart-still, restart-whole}
+use Rattle.reference.specs.internal.Evaluating.{Restarted}
+use Rattle.reference.proofs.evaluation.Restarting.{restart-none, restart-more, restart-still, restart-whole}
 use Rattle.reference.proofs.sets.restart.Statement.{statement}
 use Rattle.reference.proofs.sets.restart.Tie as tie
 

@@ -8,10 +8,11 @@ use lib.ListN.{getD}
 use Rattle.sheet.specs.Contents.{planBody, ruleBody}
 use Rattle.sheet.specs.Plan.{stateCount}
 use Rattle.sheet.specs.Rule.{nodeCount}
-use Rattle.reference.specs.Carried.{Evaluating}
-use Rattle.reference.proofs.Clauses.{states-few, plan-asked, full-is, Call, At, at-node, call-first, call-second, call-modal, step-false, step-true, step-or, step-and, step-some, step-every, step-variable, step-unknown}
-use Rattle.reference.proofs.Rounds.{Going, variable-six, binder-six, going-start, call-binder}
-use Rattle.reference.proofs.Reached.{step-least, least-less, least-round, step-greatest, greatest-less, greatest-round}
+use Rattle.reference.specs.internal.Evaluating.{Evaluating}
+use Rattle.reference.proofs.evaluation.Clauses.{states-few, plan-asked, full-is, Call, At, at-node, call-first, call-second, call-modal}
+use Rattle.reference.proofs.evaluation.Clauses.{step-false, step-true, step-or, step-and, step-some, step-every, step-variable, step-unknown}
+use Rattle.reference.proofs.evaluation.Rounds.{Going, variable-six, binder-six, going-start, call-binder}
+use Rattle.reference.proofs.evaluation.Reached.{step-least, least-less, least-round, step-greatest, greatest-less, greatest-round}
 use borrow.Fn.Kinds.{In}
 use borrow.Fn.PlainCycle.{Measures, is, falls, and}
 use Rattle.reference.proofs.table1.evaluate.Reads as evaluate

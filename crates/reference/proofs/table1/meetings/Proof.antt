@@ -3,7 +3,7 @@ use Prim.Native.Nat.{ℕ, _≤_, _-_}
 use native.Mathlib.Omega.{arith}
 use mathlib.Core.Path.{_≡_}
 use lib.ListN.{length, length-set, length-replicate}
-use Rattle.reference.proofs.Passing.{MasksUpTo, masks-start, masks-more, masks-whole}
+use Rattle.reference.proofs.evaluation.Passing.{MasksUpTo, masks-start, masks-more, masks-whole}
 use Rattle.reference.proofs.table1.meetings.Statement.{statement}
 use Rattle.reference.proofs.table1.meetings.Tie as tie
 use Rattle.reference.proofs.table1.meetings.Reads as reads

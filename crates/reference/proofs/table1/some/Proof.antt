@@ -2,8 +2,8 @@
 use Prim.Native.Nat.{_≤_, _-_}
 use native.Mathlib.Omega.{arith}
 use Rattle.sheet.specs.Plan.{stateCount}
-use Rattle.reference.specs.Carried.{Members, Leads}
-use Rattle.reference.proofs.Passing.{from-small, leads-start, leads-whole, leads-more, leads-still}
+use Rattle.reference.specs.internal.Evaluating.{Members, TransitionInto}
+use Rattle.reference.proofs.evaluation.Passing.{from-small, leads-start, leads-whole, leads-more, leads-still}
 use Rattle.reference.proofs.table1.some.Statement.{statement}
 use Rattle.reference.proofs.table1.some.Tie as tie
 use Rattle.reference.proofs.table1.some.Reads as reads
@@ -14,7 +14,7 @@ use Rattle.sheet.proofs.plan.transition.Reads as transition-reads
 use Rattle.sheet.proofs.plan.transition_count.Reads as transition-count-reads
 
 abbrev Inv-loop : tie.InvT-loop
-Inv-loop plan masks entry states count found₀ i₀ found i = (i ≤ count) × Members (stateCount plan) found (Leads plan masks entry states i)
+Inv-loop plan masks entry states count found₀ i₀ found i = (i ≤ count) × Members (stateCount plan) found (TransitionInto plan masks entry states i)
 
 abbrev μ-loop : tie.MeasureT-loop
 μ-loop plan masks entry states count found₀ i₀ found i = count - i
@@ -40,7 +40,8 @@ with-state-requires : tie.Need-with-state-requires Inv-loop μ-loop
 with-state-requires c κs =
     let b = c .before .before .before .before in
     let a = b .before .before .before in
-    from-small _ (a .args .masks .now) (a .args .entry) (a .args .states) (a .pre .1) (a .pre .0) (b .loop .i) (omega (arith, b .before .transition-count .ensures)) _ (c .before .before .transition .ensures)
+    from-small _ (a .args .masks .now) (a .args .entry) (a .args .states) (a .pre .1) (a .pre .0) (b .loop .i)
+    (omega (arith, b .before .transition-count .ensures)) _ (c .before .before .transition .ensures)
 
 -- src/table1.rt:69:13
 add-i : tie.Need-add-i Inv-loop μ-loop
@@ -54,8 +55,11 @@ loop-less c = omega arith
 loop-again : tie.Need-loop-again Inv-loop μ-loop
 loop-again c =
     let b = c .before .before .before .before .before in
-    let a = b .before .before .before in
-    (omega arith, leads-more _ _ _ _ (a .pre .1) _ (omega (arith, b .before .transition-count .ensures)) _ (b .loop .inv .1) _ (c .before .before .before .transition .ensures) _ (c .before .before .leads .ensures) (c .before .if1 .taken) _ (c .with-state .ensures))
+    let a = b .before .before .before in (
+      omega arith,
+      leads-more _ _ _ _ (a .pre .1) _ (omega (arith, b .before .transition-count .ensures)) _ (b .loop .inv .1) _
+          (c .before .before .before .transition .ensures) _ (c .before .before .leads .ensures) (c .before .if1 .taken) _ (c .with-state .ensures),
+    )
 
 -- src/table1.rt:72:9
 add-i-2 : tie.Need-add-i-2 Inv-loop μ-loop
@@ -69,8 +73,11 @@ loop-less-2 c = omega arith
 loop-again-2 : tie.Need-loop-again-2 Inv-loop μ-loop
 loop-again-2 c =
     let b = c .before .before .before .before in
-    let a = b .before .before .before in
-    (omega arith, leads-still _ _ _ _ (a .pre .1) _ (omega (arith, b .before .transition-count .ensures)) _ (b .loop .inv .1) _ (c .before .before .transition .ensures) _ (c .before .leads .ensures) (c .if1 .left))
+    let a = b .before .before .before in (
+      omega arith,
+      leads-still _ _ _ _ (a .pre .1) _ (omega (arith, b .before .transition-count .ensures)) _ (b .loop .inv .1) _
+          (c .before .before .transition .ensures) _ (c .before .leads .ensures) (c .if1 .left),
+    )
 
 -- src/table1.rt:58:1
 returns : tie.Need-returns Inv-loop μ-loop

@@ -1,9 +1,8 @@
 -- `sheet::actions::check_actions` meets its contract.
 use borrow.Author.Needs.{needs}
-use native.Mathlib.Omega.{arith}
-use mathlib.Core.Path.{sym, ap, _∙_}
+use mathlib.Core.Path.{sym, _∙_}
 use borrow.Author.Tests.{not-true, not-false}
-use Rattle.sheet.proofs.CheckSteps.{actions-unsized, actions-passed, actions-faulty}
+use Rattle.sheet.proofs.steps.BodyChecks.{actions-unsized, actions-passed, actions-faulty}
 use Rattle.sheet.proofs.actions.check_actions.Statement.{statement}
 use Rattle.sheet.proofs.actions.check_actions.Tie as tie
 
@@ -23,10 +22,20 @@ cast-t9 : tie.Need-cast-t9
 cast-t9 c = search needs
 
 returns-2 : tie.Need-returns-2
-returns-2 c = actions-passed _ _ (sym (c .before .before .before .before .sized .ensures) ∙ not-false _ (c .before .before .before .if1 .left)) (sym (c .before .before .lowest-faulty .ensures .0) ∙ (c .if2 .taken ∙ c .before .byte-at .ensures .0))
+returns-2 c =
+    let at-lowest-faulty = c .before .before in
+    let at-if1 = at-lowest-faulty .before in
+    let at-sized = at-if1 .before in
+    actions-passed _ _ (sym (at-sized .sized .ensures) ∙ not-false _ (at-if1 .if1 .left))
+    (sym (at-lowest-faulty .lowest-faulty .ensures .0) ∙ (c .if2 .taken ∙ c .before .byte-at .ensures .0))
 
 returns-3 : tie.Need-returns-3
-returns-3 c = actions-faulty _ _ _ (sym (c .before .before .before .before .sized .ensures) ∙ not-false _ (c .before .before .before .if1 .left)) (c .before .before .lowest-faulty .ensures .0) (λ e. c .if2 .left (e ∙ sym (c .before .byte-at .ensures .0)))
+returns-3 c =
+    let at-lowest-faulty = c .before .before in
+    let at-if1 = at-lowest-faulty .before in
+    let at-sized = at-if1 .before in
+    actions-faulty _ _ _ (sym (at-sized .sized .ensures) ∙ not-false _ (at-if1 .if1 .left)) (at-lowest-faulty .lowest-faulty .ensures .0)
+    (λ e. c .if2 .left (e ∙ sym (c .before .byte-at .ensures .0)))
 
 pub check-actions-spec : {M : Type 1} → statement M
 check-actions-spec =

@@ -1,6 +1,5 @@
 -- `sheet::actions::entry_faulty` meets its contract.
 use borrow.Author.Needs.{needs}
-use native.Mathlib.Omega.{arith}
 use Rattle.sheet.specs.Actions.{entryFaulty}
 use Rattle.sheet.proofs.actions.entry_faulty.Statement.{statement}
 use Rattle.sheet.proofs.actions.entry_faulty.Tie as tie

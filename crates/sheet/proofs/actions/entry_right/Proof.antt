@@ -1,8 +1,8 @@
 -- `sheet::actions::entry_right` meets its contract: the range or number that was matched says which case of `entryRight` holds.
 use borrow.Author.Needs.{needs}
 use native.Mathlib.Omega.{arith}
-use mathlib.Core.Path.{sym, ap, _∙_}
-use Rattle.sheet.proofs.Entries.{right-constant, right-action, right-pair, right-not, right-range, right-unknown}
+use mathlib.Core.Path.{sym, _∙_}
+use Rattle.sheet.proofs.steps.Entries.{right-constant, right-action, right-pair, right-not, right-range, right-unknown}
 use Rattle.sheet.proofs.actions.entry_right.Statement.{statement}
 use Rattle.sheet.proofs.actions.entry_right.Tie as tie
 

@@ -1,8 +1,8 @@
 -- `sheet::actions::sized` meets its contract.
 use borrow.Author.Needs.{needs}
 use native.Mathlib.Omega.{arith}
-use mathlib.Core.Path.{sym, ap, _∙_}
-use Rattle.sheet.proofs.Sizes.{actions-empty, actions-long, actions-exact}
+use mathlib.Core.Path.{sym}
+use Rattle.sheet.proofs.steps.Sizes.{actions-empty, actions-long, actions-exact}
 use Rattle.sheet.proofs.actions.sized.Statement.{statement}
 use Rattle.sheet.proofs.actions.sized.Tie as tie
 

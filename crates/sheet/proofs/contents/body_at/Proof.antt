@@ -15,11 +15,11 @@ add-word-at-2 c = search needs
 word-at-requires-2 : tie.Need-word-at-requires-2
 word-at-requires-2 c κs = search needs
 
-part-of-requires : tie.Need-part-of-requires
-part-of-requires c κs = search needs
+slice-of-requires : tie.Need-slice-of-requires
+slice-of-requires c κs = search needs
 
 returns : tie.Need-returns
-returns c = rw (← c .before .before .word-at .ensures .0, ← c .before .word-at2 .ensures .0) (c .part-of .ensures)
+returns c = rw (← c .before .before .word-at .ensures .0, ← c .before .word-at2 .ensures .0) (c .slice-of .ensures)
 
 pub body-at-spec : {M : Type 1} → statement M
 body-at-spec =
@@ -29,5 +29,5 @@ body-at-spec =
     word-at-requires
     add-word-at-2
     word-at-requires-2
-    part-of-requires
+    slice-of-requires
     returns)

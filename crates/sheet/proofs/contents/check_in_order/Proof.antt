@@ -15,7 +15,6 @@ use prog.Memory.{Memory}
 use prog.Routine.{Routine}
 use prog.Wp.{Heap, Calls, Loops, WpFn, Tables}
 use ghost.Atoms.{Atoms, sem}
-use contract.Lifetimes.{Lfts}
 use contract.Monad.{Fun, fact}
 use contract.Running.{givenOf, tables, tablesOf}
 use types.Kit.{Given, ‵, raw, _⊛_, ⋆, some, later, _$_, _∵_, !, qed, by, move, rewrite, use1, use2, split, join, pick, fsplit, fjoin, suffices, frame, await, done}
@@ -38,7 +37,7 @@ use denote.Triple.Table.{entered, cited}
 use denote.Triple.Walked.{says, Stays, stay-none-slice, walkOf, goes-none-slice, Walks, ends-at, walked, walk-meets}
 use denote.Exit.{yes}
 use denote.Triple.Clauses.{ensured, lasts}
-use Rattle.sheet.specs.Contents.{bodyAt}
+use Rattle.sheet.specs.internal.Entry.{bodyAt}
 use Rattle.sheet.specs.Reading.{bodiesCheck}
 use Rattle.sheet.specs.declared.contents.Reader.{Reader}
 use Rattle.sheet.specs.declared.Check.{Check}

@@ -2,17 +2,16 @@
 use borrow.Author.Needs.{needs}
 use native.Mathlib.Omega.{arith}
 use mathlib.Core.Path.{_≡_, refl}
-use Prim.Native.Nat.{_-_, _≤_}
-use Rattle.sheet.specs.Bytes.{lowestFrom}
+use Prim.Native.Nat.{_-_}
 use Rattle.sheet.specs.Plan.{transitionFaulty, lowestTransition}
-use Rattle.sheet.specs.Order.{floorAt}
-use Rattle.sheet.proofs.Lowest.{search-start, search-here, search-next, search-end}
-use Rattle.sheet.proofs.Order.{stopped, passed, next-floor}
+use Rattle.sheet.specs.internal.Order.{floorAt}
+use Rattle.sheet.proofs.checks.Seeking.{Seeking, seek-start, seek-here, seek-next, seek-end}
+use Rattle.sheet.proofs.steps.Order.{stopped, passed, next-floor}
 use Rattle.sheet.proofs.plan.lowest_faulty.Statement.{statement}
 use Rattle.sheet.proofs.plan.lowest_faulty.Tie as tie
 
 abbrev Inv-loop : tie.InvT-loop
-Inv-loop p states actions count floor₀ i₀ floor i = (i ≤ count) × (floor ≡ floorAt p i) × (lowestFrom (transitionFaulty p) (count - i) i ≡ lowestTransition p)
+Inv-loop p states actions count floor₀ i₀ floor i = (floor ≡ floorAt p i) × Seeking (transitionFaulty p) count (lowestTransition p) i
 
 abbrev μ-loop : tie.MeasureT-loop
 μ-loop p states actions count floor₀ i₀ floor i = count - i
@@ -28,13 +27,19 @@ word-at-requires c κs = search needs
 
 loop-holds : tie.Need-loop-holds Inv-loop μ-loop
 unfolding floorAt
-loop-holds c = (omega arith, refl, search-start _ _ _ (c .word-at .ensures .0))
+loop-holds c = (refl, seek-start _ _ _ (c .word-at .ensures .0))
 
 step-requires : tie.Need-step-requires Inv-loop μ-loop
-step-requires c κs = record { states-are = c .before .before .before .before .byte-at .ensures .0; actions-are = c .before .before .before .byte-at2 .ensures .0; floor-is = c .before .loop .inv .1; inside = omega arith; small = omega arith }
+step-requires c κs = record {
+  states-are = c .before .before .before .before .byte-at .ensures .0;
+  actions-are = c .before .before .before .byte-at2 .ensures .0;
+  floor-is = c .before .loop .inv .0;
+  inside = omega arith;
+  small = omega arith;
+}
 
 returns : tie.Need-returns Inv-loop μ-loop
-returns c = (search-here _ _ _ _ (omega arith) (stopped _ _ _ (c .before .step .ensures) (c .if1 .taken)) (c .before .before .before .loop .inv .2), omega arith)
+returns c = (seek-here (c .before .before .before .loop .inv .1) (omega arith) (stopped _ _ _ (c .before .step .ensures) (c .if1 .taken)), omega arith)
 
 add-i : tie.Need-add-i Inv-loop μ-loop
 add-i c = omega arith
@@ -43,10 +48,12 @@ loop-less : tie.Need-loop-less Inv-loop μ-loop
 loop-less c = omega arith
 
 loop-again : tie.Need-loop-again Inv-loop μ-loop
-loop-again c = (omega arith, next-floor _ _ _ (c .before .step .ensures) (c .if1 .left), search-next _ _ _ _ (omega arith) (passed _ _ _ (c .before .step .ensures) (c .if1 .left)) (c .before .before .before .loop .inv .2))
+loop-again c = let step = c .before .step .ensures in
+    let fine = c .if1 .left in
+    (next-floor _ _ _ step fine, seek-next (c .before .before .before .loop .inv .1) (omega arith) (passed _ _ _ step fine))
 
 returns-2 : tie.Need-returns-2 Inv-loop μ-loop
-returns-2 c = (search-end _ _ _ _ (omega arith) (c .before .loop .inv .2), omega arith)
+returns-2 c = (seek-end (c .before .loop .inv .1) (omega arith), omega arith)
 
 pub lowest-faulty-spec : {M : Type 1} → statement M
 lowest-faulty-spec =

@@ -2,7 +2,7 @@
 use borrow.Author.Needs.{needs}
 use native.Mathlib.Omega.{arith}
 use mathlib.Core.Path.{sym}
-use Rattle.sheet.proofs.Sizes.{plan-short, plan-stateless, plan-crowded, plan-long, plan-exact}
+use Rattle.sheet.proofs.steps.Sizes.{plan-short, plan-stateless, plan-crowded, plan-long, plan-exact}
 use Rattle.sheet.proofs.plan.sized.Statement.{statement}
 use Rattle.sheet.proofs.plan.sized.Tie as tie
 

@@ -1,8 +1,7 @@
 -- `sheet::plan::step` meets its contract.
 use borrow.Author.Needs.{needs}
 use native.Mathlib.Omega.{arith}
-use mathlib.Core.Path.{sym, ap}
-use Rattle.sheet.proofs.Order.{step-origin, step-label, step-target, step-low, step-fine}
+use Rattle.sheet.proofs.steps.Order.{step-origin, step-label, step-target, step-low, step-fine}
 use Rattle.sheet.proofs.plan.step.Statement.{statement}
 use Rattle.sheet.proofs.plan.step.Tie as tie
 

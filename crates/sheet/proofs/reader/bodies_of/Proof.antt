@@ -1,6 +1,5 @@
 -- `sheet::reader::bodies_of` meets its contract.
 use borrow.Author.Needs.{needs}
-use mathlib.Core.Path.{sym, ap, _∙_}
 use Rattle.sheet.proofs.reader.bodies_of.Statement.{statement}
 use Rattle.sheet.proofs.reader.bodies_of.Tie as tie
 

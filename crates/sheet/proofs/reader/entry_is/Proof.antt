@@ -1,7 +1,7 @@
 -- `sheet::reader::entry_is` meets its contract.
 use borrow.Author.Needs.{needs}
-use mathlib.Core.Path.{sym, ap, _∙_}
-use Rattle.sheet.proofs.SheetSteps.{entry-kind, entry-other}
+use mathlib.Core.Path.{sym, _∙_}
+use Rattle.sheet.proofs.steps.Sheet.{entry-kind, entry-other}
 use Rattle.sheet.proofs.reader.entry_is.Statement.{statement}
 use Rattle.sheet.proofs.reader.entry_is.Tie as tie
 

@@ -1,7 +1,7 @@
 -- `sheet::reader::heading_right` meets its contract.
 use borrow.Author.Needs.{needs}
-use mathlib.Core.Path.{sym, ap, _∙_}
-use Rattle.sheet.proofs.SheetSteps.{heading-edition, heading-other}
+use mathlib.Core.Path.{sym, _∙_}
+use Rattle.sheet.proofs.steps.Sheet.{heading-edition, heading-other}
 use Rattle.sheet.proofs.reader.heading_right.Statement.{statement}
 use Rattle.sheet.proofs.reader.heading_right.Tie as tie
 

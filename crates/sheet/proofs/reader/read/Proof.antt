@@ -1,9 +1,10 @@
 -- `sheet::reader::read` meets its contract.
 use borrow.Author.Needs.{needs}
-use native.Mathlib.Omega.{arith}
 use mathlib.Core.Path.{sym, ap, _∙_}
 use Rattle.sheet.specs.declared.Read.the-variants.{Accepted}
-use Rattle.sheet.proofs.SheetSteps.{answered, read-accepted, read-refused}
+use Rattle.sheet.specs.Reading.{reportedRead}
+use Rattle.sheet.proofs.checks.Checks.{with-report}
+use Rattle.sheet.proofs.steps.Sheet.{read-accepted, read-refused}
 use Rattle.sheet.proofs.reader.read.Statement.{statement}
 use Rattle.sheet.proofs.reader.read.Tie as tie
 
@@ -20,10 +21,10 @@ enum-known-checked : tie.Need-enum-known-checked
 enum-known-checked c = search needs
 
 returns : tie.Need-returns
-returns c = answered _ _ (ap Accepted (c .bodies-of .ensures) ∙ read-accepted _ (sym (c .before .before .before .check .ensures .0) ∙ c .before .enum-told .given .1))
+returns c = with-report reportedRead (ap Accepted (c .bodies-of .ensures) ∙ read-accepted _ (sym (c .before .before .before .check .ensures .0) ∙ c .before .enum-told .given .1))
 
 returns-2 : tie.Need-returns-2
-returns-2 c = answered _ _ (read-refused _ _ (sym (c .before .before .before .check .ensures .0) ∙ c .before .checked .given .1))
+returns-2 c = with-report reportedRead (read-refused _ _ (sym (c .before .before .before .check .ensures .0) ∙ c .before .checked .given .1))
 
 pub read-spec : {M : Type 1} → statement M
 read-spec =

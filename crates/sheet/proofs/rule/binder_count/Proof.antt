@@ -1,7 +1,6 @@
 -- `sheet::rule::binder_count` meets its contract.
 use borrow.Author.Needs.{needs}
-use native.Mathlib.Omega.{arith}
-use mathlib.Core.Path.{sym, ap, _∙_}
+use mathlib.Core.Path.{ap, _∙_}
 use Rattle.sheet.specs.Rule.{bindersBefore}
 use Rattle.sheet.proofs.rule.binder_count.Statement.{statement}
 use Rattle.sheet.proofs.rule.binder_count.Tie as tie
@@ -16,7 +15,7 @@ cast-result : tie.Need-cast-result
 cast-result c = search needs
 
 returns : tie.Need-returns
-returns c = c .binders-before .ensures .0 ∙ ap (bindersBefore _) (c .before .byte-at .ensures .0)
+returns c = c .binders-before .ensures .is ∙ ap (bindersBefore _) (c .before .byte-at .ensures .0)
 
 pub binder-count-spec : {M : Type 1} → statement M
 binder-count-spec =

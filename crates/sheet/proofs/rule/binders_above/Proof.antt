@@ -4,7 +4,7 @@ use mathlib.Core.Path.{_≡_, sym, ap, _∙_}
 use Prim.Native.Nat.{ℕ, _-_, _+_, _≤_}
 use native.Mathlib.Omega.{arith}
 use Rattle.sheet.specs.Rule.{aboveAmong}
-use Rattle.sheet.proofs.NodeSteps.{above-none, above-more, above-same}
+use Rattle.sheet.proofs.steps.Nodes.{above-none, above-more, above-same}
 use Rattle.sheet.proofs.rule.binders_above.Statement.{statement}
 use Rattle.sheet.proofs.rule.binders_above.Tie as tie
 

@@ -2,7 +2,7 @@
 use borrow.Author.Needs.{needs}
 use native.Mathlib.Omega.{arith}
 use mathlib.Core.Path.{sym}
-use Rattle.sheet.proofs.NodeSteps.{binding-free, binding-variable, binding-unknown, binding-numbered, binding-misnumbered}
+use Rattle.sheet.proofs.steps.Nodes.{binding-free, binding-variable, binding-unknown, binding-numbered, binding-misnumbered}
 use Rattle.sheet.proofs.rule.binding_faulty.Statement.{statement}
 use Rattle.sheet.proofs.rule.binding_faulty.Tie as tie
 

@@ -1,10 +1,10 @@
 -- `sheet::rule::check_rule` meets its contract.
 use borrow.Author.Needs.{needs}
 use native.Mathlib.Omega.{arith}
-use mathlib.Core.Path.{sym, ap, _∙_}
+use mathlib.Core.Path.{sym, _∙_}
 use borrow.Author.Tests.{not-true, not-false}
-use Rattle.sheet.proofs.Sizes.{rule-sized}
-use Rattle.sheet.proofs.CheckSteps.{rule-unsized, rule-malformed, rule-misbound, rule-passed}
+use Rattle.sheet.proofs.steps.Sizes.{rule-root}
+use Rattle.sheet.proofs.steps.BodyChecks.{rule-unsized, rule-malformed, rule-misbound, rule-passed}
 use Rattle.sheet.proofs.rule.check_rule.Statement.{statement}
 use Rattle.sheet.proofs.rule.check_rule.Tie as tie
 
@@ -18,7 +18,7 @@ byte-at-requires : tie.Need-byte-at-requires
 byte-at-requires c κs = search needs
 
 syntax-fault-requires : tie.Need-syntax-fault-requires
-syntax-fault-requires c κs = rule-sized _ (sym (c .before .before .sized .ensures) ∙ not-false _ (c .before .if1 .left))
+syntax-fault-requires c κs = rule-root _ (sym (c .before .before .sized .ensures) ∙ not-false _ (c .before .if1 .left))
 
 cast-t9 : tie.Need-cast-t9
 cast-t9 c = search needs
@@ -33,7 +33,10 @@ cast-t12 : tie.Need-cast-t12
 cast-t12 c = search needs
 
 returns-3 : tie.Need-returns-3
-returns-3 c = rule-misbound _ _ _ (sym (c .before .before .before .before .before .before .sized .ensures) ∙ not-false _ (c .before .before .before .before .before .if1 .left)) (omega arith) (c .before .lowest-faulty .ensures .0) (omega arith)
+returns-3 c =
+    let at-if1 = c .before .before .before .before .before in
+    let at-sized = at-if1 .before in
+    rule-misbound _ _ _ (sym (at-sized .sized .ensures) ∙ not-false _ (at-if1 .if1 .left)) (omega arith) (c .before .lowest-faulty .ensures .0) (omega arith)
 
 returns-4 : tie.Need-returns-4
 returns-4 c = rule-passed _ _ (sym (c .before .before .before .before .before .before .sized .ensures) ∙ not-false _ (c .before .before .before .before .before .if1 .left)) (omega arith) (omega arith)

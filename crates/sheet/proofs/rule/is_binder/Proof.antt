@@ -1,6 +1,5 @@
 -- `sheet::rule::is_binder` meets its contract.
 use borrow.Author.Needs.{needs}
-use mathlib.Core.Path.{sym, ap, _∙_}
 use borrow.Author.Tests.{le-leb, lt-leb}
 use Rattle.sheet.proofs.rule.is_binder.Statement.{statement}
 use Rattle.sheet.proofs.rule.is_binder.Tie as tie

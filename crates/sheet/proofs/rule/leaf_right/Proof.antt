@@ -1,6 +1,5 @@
 -- `sheet::rule::leaf_right` meets its contract.
 use borrow.Author.Needs.{needs}
-use mathlib.Core.Path.{sym, ap, _∙_}
 use Rattle.sheet.proofs.rule.leaf_right.Statement.{statement}
 use Rattle.sheet.proofs.rule.leaf_right.Tie as tie
 

@@ -1,7 +1,5 @@
 -- `sheet::rule::modal_right` meets its contract.
 use borrow.Author.Needs.{needs}
-use mathlib.Core.Path.{sym, ap, _∙_}
-use native.Mathlib.Omega.{arith}
 use borrow.Author.Tests.{lt-ltb, le-ltb}
 use Rattle.sheet.proofs.rule.modal_right.Statement.{statement}
 use Rattle.sheet.proofs.rule.modal_right.Tie as tie

@@ -1,8 +1,8 @@
 -- `sheet::rule::sized` meets its contract.
 use borrow.Author.Needs.{needs}
 use native.Mathlib.Omega.{arith}
-use mathlib.Core.Path.{sym, ap, _∙_}
-use Rattle.sheet.proofs.Sizes.{rule-empty, rule-nodeless, rule-long, rule-exact}
+use mathlib.Core.Path.{sym}
+use Rattle.sheet.proofs.steps.Sizes.{rule-empty, rule-nodeless, rule-long, rule-exact}
 use Rattle.sheet.proofs.rule.sized.Statement.{statement}
 use Rattle.sheet.proofs.rule.sized.Tie as tie
 

@@ -1,6 +1,5 @@
 -- `sheet::rule::y_is_child` meets its contract.
 use borrow.Author.Needs.{needs}
-use mathlib.Core.Path.{sym, ap, _∙_}
 use Rattle.sheet.proofs.rule.y_is_child.Statement.{statement}
 use Rattle.sheet.proofs.rule.y_is_child.Tie as tie
 

@@ -1,68 +1,33 @@
--- `sheet::writer::copy_at` meets its contract. Of the loop: the first i bytes are copied.
-use native.Mathlib.Omega.{arith}
-use mathlib.Core.Path.{_≡_, refl, sym, ap, _∙_}
-use mathlib.Core.List.{List}
-use Prim.Native.Nat.{ℕ, _-_, _≤_, _+_}
-use native.Mathlib.Numerals.{add-one}
+-- `sheet::writer::copy_at` meets its contract.
+use borrow.Author.Needs.{needs}
 use denote.Ref.{now}
-use lib.ListN.{length, set, getD, length-set}
-use lib.Seq.{paste, paste-zero, paste-suc}
+use Rattle.sheet.proofs.steps.Writing.{copied-part}
 use Rattle.sheet.proofs.writer.copy_at.Statement.{statement}
 use Rattle.sheet.proofs.writer.copy_at.Tie as tie
 
-abbrev Inv-loop : tie.InvT-loop
-Inv-loop out₀ at src i₀ out i = (i ≤ length src) × (length out ≡ length out₀) × (out ≡ paste out₀ at src i)
+add-copy : tie.Need-add-copy
+add-copy c = search needs
 
-abbrev μ-loop : tie.MeasureT-loop
-μ-loop out₀ at src i₀ out i = length src - i
+sub-copy : tie.Need-sub-copy
+sub-copy c = search needs
 
-loop-holds : tie.Need-loop-holds Inv-loop μ-loop
-loop-holds c = (omega arith, refl, paste-zero (now (c .args .out)) (c .args .at) (now (c .args .src)))
+part-copy-start : tie.Need-part-copy-start
+part-copy-start c = search needs
 
-shared-slice-read-out : tie.Need-shared-slice-read-out Inv-loop μ-loop
-shared-slice-read-out c = omega arith
+part-copy-end : tie.Need-part-copy-end
+part-copy-end c = search needs
 
-add-out : tie.Need-add-out Inv-loop μ-loop
-add-out c = omega arith
+copy-requires : tie.Need-copy-requires
+copy-requires c κs = search needs
 
-slice-write-out : tie.Need-slice-write-out Inv-loop μ-loop
-slice-write-out c = omega arith
+same-length : tie.Need-same-length
+same-length c = search needs
 
-add-i : tie.Need-add-i Inv-loop μ-loop
-add-i c = omega arith
-
-loop-less : tie.Need-loop-less Inv-loop μ-loop
-loop-less c = omega arith
-
-loop-again : tie.Need-loop-again Inv-loop μ-loop
-loop-again c = let a = c .before .before .before .args in
-    let i = c .before .before .loop .i in (
-      omega arith,
-      simp length-set (c .before .before .loop .inv .1),
-      ap (λ (l : List ℕ). set l (a .at + i) (getD (now (a .src)) i 0)) (c .before .before .loop .inv .2) ∙
-          (paste-suc (now (a .out)) (a .at) (now (a .src)) i 0 (omega arith) (omega arith) ∙ ap (paste (now (a .out)) (a .at) (now (a .src))) (sym (add-one i))),
-    )
-
-same-length : tie.Need-same-length Inv-loop μ-loop
-same-length c = c .before .loop .inv .1
-
-returns : tie.Need-returns Inv-loop μ-loop
-returns c = let a = c .before .before .args in
-    let e : c .before .loop .i ≡ length (now (a .src)) = omega arith in
-    c .before .loop .inv .2 ∙ ap (paste (now (a .out)) (a .at) (now (a .src))) e
+returns : tie.Need-returns
+returns c = let start = c .before .before .before .before .before .before in
+    copied-part (now (start .args .out)) (now (start .args .src)) _ (start .args .at) (start .pre) (c .before .before .copy .ensures .1)
 
 pub copy-at-spec : {M : Type 1} → statement M
 copy-at-spec =
     tie.close
-    (tie.spec
-    Inv-loop
-    μ-loop
-    loop-holds
-    shared-slice-read-out
-    add-out
-    slice-write-out
-    add-i
-    loop-less
-    loop-again
-    same-length
-    returns)
+    (tie.spec add-copy sub-copy part-copy-start part-copy-end copy-requires same-length returns)

@@ -7,7 +7,7 @@ use mathlib.Core.List.{List}
 use Prim.Native.Nat.{ℕ}
 use lib.ListN.{length}
 use lib.Seq.{paste}
-use Rattle.sheet.proofs.WriteSteps.{copied}
+use Rattle.sheet.proofs.steps.Writing.{copied}
 use Rattle.sheet.proofs.writer.put_sheet.Statement.{statement}
 use Rattle.sheet.proofs.writer.put_sheet.Tie as tie
 
@@ -27,7 +27,11 @@ add-copy-at : tie.Need-add-copy-at
 add-copy-at c = search needs
 
 copy-at-requires-3 : tie.Need-copy-at-requires-3
-copy-at-requires-3 c κs = omega (arith, c .before .before .before .before .before .before .before .copy-at .kept .0, c .before .before .before .copy-at2 .kept .0, c .before .before .before .before .before .before .before .before .before .before .before .before .before .before .before .pre .room)
+copy-at-requires-3 c κs =
+    let at-copy-at2 = c .before .before .before in
+    let at-copy-at = at-copy-at2 .before .before .before .before in
+    let start = at-copy-at .before .before .before .before .before .before .before .before in
+    omega (arith, at-copy-at .copy-at .kept .0, at-copy-at2 .copy-at2 .kept .0, start .pre .room)
 
 add-copy-at-2 : tie.Need-add-copy-at-2
 add-copy-at-2 c = search needs
@@ -36,18 +40,33 @@ add-copy-at-3 : tie.Need-add-copy-at-3
 add-copy-at-3 c = search needs
 
 copy-at-requires-4 : tie.Need-copy-at-requires-4
-copy-at-requires-4 c κs = omega (arith, c .before .before .before .before .before .before .before .before .before .before .before .copy-at .kept .0, c .before .before .before .before .before .before .before .copy-at2 .kept .0, c .before .before .before .copy-at3 .kept .0, c .before .before .before .before .before .before .before .before .before .before .before .before .before .before .before .before .before .before .before .pre .room)
+copy-at-requires-4 c κs =
+    let at-copy-at3 = c .before .before .before in
+    let at-copy-at2 = at-copy-at3 .before .before .before .before in
+    let at-copy-at = at-copy-at2 .before .before .before .before in
+    let start = at-copy-at .before .before .before .before .before .before .before .before in
+    omega (arith, at-copy-at .copy-at .kept .0, at-copy-at2 .copy-at2 .kept .0, at-copy-at3 .copy-at3 .kept .0, start .pre .room)
 
 same-length : tie.Need-same-length
-same-length c = c .before .before .copy-at4 .kept .0 ∙ (c .before .before .before .before .before .before .copy-at3 .kept .0 ∙ (c .before .before .before .before .before .before .before .before .before .before .copy-at2 .kept .0 ∙ c .before .before .before .before .before .before .before .before .before .before .before .before .before .before .copy-at .kept .0))
+same-length c =
+    let at-copy-at4 = c .before .before in
+    let at-copy-at3 = at-copy-at4 .before .before .before .before in
+    let at-copy-at2 = at-copy-at3 .before .before .before .before in
+    let at-copy-at = at-copy-at2 .before .before .before .before in
+    at-copy-at4 .copy-at4 .kept .0 ∙ (at-copy-at3 .copy-at3 .kept .0 ∙ (at-copy-at2 .copy-at2 .kept .0 ∙ at-copy-at .copy-at .kept .0))
 
 returns : tie.Need-returns
-returns c = let a = c .before .before .before .before .before .before .before .before .before .before .before .before .before .before .before .before .before .before .before .before .before .before .args in
+returns c =
+    let at-copy-at4 = c .before .before in
+    let at-copy-at3 = at-copy-at4 .before .before .before .before in
+    let at-copy-at2 = at-copy-at3 .before .before .before .before in
+    let at-copy-at = at-copy-at2 .before .before .before .before in
+    let at-head-of = at-copy-at .before .before .before in
+    let start = at-head-of .before .before .before .before .before in
+    let a = start .args in
     copied (now (a .p)) (now (a .a)) (now (a .r)) (now (a .out)) _ _ _ _
-    (c .before .before .before .before .before .before .before .before .before .before .before .before .before .before .copy-at .ensures ∙ ap (λ (h : List ℕ). paste (now (a .out)) 0 h (length h)) (c .before .before .before .before .before .before .before .before .before .before .before .before .before .before .before .before .before .head-of .ensures))
-    (c .before .before .before .before .before .before .before .before .before .before .copy-at2 .ensures)
-    (c .before .before .before .before .before .before .copy-at3 .ensures)
-    (c .before .before .copy-at4 .ensures)
+    (at-copy-at .copy-at .ensures ∙ ap (λ (h : List ℕ). paste (now (a .out)) 0 h (length h)) (at-head-of .head-of .ensures)) (at-copy-at2 .copy-at2 .ensures)
+    (at-copy-at3 .copy-at3 .ensures) (at-copy-at4 .copy-at4 .ensures)
 
 pub put-sheet-spec : {M : Type 1} → statement M
 put-sheet-spec =

@@ -21,8 +21,8 @@ text-requires c κs = search needs
 loop-holds : tie.Need-loop-holds Inv-loop μ-loop
 loop-holds c = search needs
 
-hex-part-requires : tie.Need-hex-part-requires Inv-loop μ-loop
-hex-part-requires c κs = search needs
+hex-chunk-requires : tie.Need-hex-chunk-requires Inv-loop μ-loop
+hex-chunk-requires c κs = search needs
 
 add-from : tie.Need-add-from Inv-loop μ-loop
 add-from c = search needs
@@ -45,7 +45,7 @@ hex-spec =
     slice-aggregate-text
     text-requires
     loop-holds
-    hex-part-requires
+    hex-chunk-requires
     add-from
     loop-less
     loop-again

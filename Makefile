@@ -1,0 +1,41 @@
+# What a maintainer runs. `make help` lists it.
+
+DRIVER := target/bin/trials
+PROGRAM := target/bin/plan_judge
+STORED := target/stored
+DIFFERENTIAL := cd tests/differential && cargo run --release --offline --quiet --
+
+.PHONY: gate check examples trials store differential benchmark help
+
+gate: ## prove all from nothing, try the must-fail edits, run the programs (rt ci)
+	.ci/run
+
+check: ## prove what changed since the last check, and run the programs that did
+	rt check
+
+examples: ## judge the sheets of examples/ and others, and compare with what is right
+	rt check plan_judge
+	python3 tests/sheets.py check examples $(PROGRAM)
+
+trials: ## say whether the stored trials are what tests/cases.py makes
+	mkdir -p $(STORED)
+	python3 tests/cases.py store $(STORED)
+	cmp $(STORED)/stdin crates/trials/stdin
+	cmp $(STORED)/stdout crates/trials/stdout
+	@echo 'the stored files are what the cases make'
+
+store: ## write the stored trials anew
+	python3 tests/cases.py store crates/trials
+
+differential: ## compare the trial driver with a program in Rust on 40,000 requests
+	rt check trials
+	$(DIFFERENTIAL) vectors ../vectors
+	$(DIFFERENTIAL) selfcheck
+	$(DIFFERENTIAL) compare ../../$(DRIVER) --count 40000
+
+benchmark: ## measure it against the Rust program and write docs/BENCHMARK.md
+	rt check trials
+	$(DIFFERENTIAL) bench ../../$(DRIVER)
+
+help: ## this list
+	@awk -F ':.*## ' '/^[a-z]+:.*##/ { printf "make %-13s %s\n", $$1, $$2 }' Makefile

@@ -1,0 +1,4 @@
+pub mod KindMap
+pub mod SameShapes
+pub mod Alike
+pub mod Exchange

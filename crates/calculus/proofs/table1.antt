@@ -1,0 +1,10 @@
+pub mod Sets
+pub mod Tabulate
+pub mod Modal
+pub mod Monotone
+pub mod Iterates
+pub mod Decide
+pub mod Locality
+pub mod Unfolding
+pub mod Ranges
+pub mod Verdicts

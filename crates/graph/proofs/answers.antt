@@ -1,0 +1,2 @@
+pub mod LoopSearchAnswers
+pub mod LoopFoundExactly

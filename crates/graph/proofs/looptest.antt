@@ -1,0 +1,4 @@
+pub mod Successors
+pub mod Settled
+pub mod Height
+pub mod LoopFree

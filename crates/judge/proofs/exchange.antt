@@ -1,0 +1,2 @@
+pub mod GuardedNodes
+pub mod ExchangedRows

@@ -1,0 +1,2 @@
+pub mod JustCleared
+pub mod SheetLists

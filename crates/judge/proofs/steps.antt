@@ -1,0 +1,11 @@
+pub mod ClearSteps
+pub mod QueryAnswers
+pub mod PackedVerdicts
+pub mod Products
+pub mod BinderSteps
+pub mod PrepareSteps
+pub mod DecideSteps
+pub mod DecideCalls
+pub mod DecideAnswers
+pub mod FollowSteps
+pub mod FollowWalk

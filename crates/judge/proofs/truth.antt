@@ -1,0 +1,3 @@
+pub mod RightContexts
+pub mod RowValues
+pub mod Truth

@@ -1,0 +1,4 @@
+pub mod Index
+pub mod Preparing
+pub mod Packed
+pub mod Deciding

@@ -1,0 +1,5 @@
+pub mod Solver
+pub mod Walks
+pub mod Solved
+pub mod QueryByRow
+pub mod JoinedValues

@@ -1,0 +1,5 @@
+pub mod Systems
+pub mod Fuel
+pub mod Changed
+pub mod Needs
+pub mod Members

@@ -1,0 +1,4 @@
+pub mod Among
+pub mod Counting
+pub mod Extension
+pub mod Filling

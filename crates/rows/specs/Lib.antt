@@ -1,0 +1,6 @@
+-- document 01, "Rows"
+pub mod Rows
+-- "Guard check, clearing, query"
+pub mod Tables
+-- what private functions promise; nobody has to believe it
+pub mod internal

@@ -1,0 +1,3 @@
+pub mod Lowest
+pub mod Seeking
+pub mod Checks

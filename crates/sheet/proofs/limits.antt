@@ -1,0 +1,4 @@
+pub mod ByteLists
+pub mod Triples
+pub mod Lengths
+pub mod Longest

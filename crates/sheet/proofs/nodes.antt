@@ -1,0 +1,5 @@
+pub mod Shapes
+pub mod Subtrees
+pub mod Children
+pub mod Extents
+pub mod Binders

@@ -1,0 +1,52 @@
+// Texts put together in a buffer: a text, a number in decimal, `true` or `false`. Each function puts its text at a place of the buffer and answers the
+// place after it. Where the text does not fit it puts nothing and answers a place past the end, where nothing fits any more: so a line of several texts
+// is put by one call after another, and only the last place is tested.
+ghost use mathlib.Core.Path.{_≡_};
+ghost use Rattle.text.specs.Decimal.{decimalOf};
+ghost use Rattle.text.specs.Placing.{bufferAfter, placeAfter};
+ghost use Rattle.text.specs.Words.{boolText};
+
+// Two tests, since the sum of the place and the text's length may be no number of 64 bits.
+pub fn put(text: &[u8], at: usize, out: &mut [u8]) -> usize
+    ensures { λ r. ⌜ r ≡ placeAfter (now (text .entry)) at (now (out .entry)) ⌝ }
+    ensures { λ _. ⌜ now (out .exit) ≡ bufferAfter (now (text .entry)) at (now (out .entry)) ⌝ }
+{
+    let size = out.len();
+    let n = text.len();
+    if size < n {
+        return size + 1;
+    }
+    if size - n < at {
+        return size + 1;
+    }
+    let end = at + n;
+    bytes::copy(text, &mut out[at..end]);
+    end
+}
+
+// A number of 64 bits has at most 20 digits. They are found from the last to the first.
+pub fn put_decimal(n: u64, at: usize, out: &mut [u8]) -> usize
+    ensures { λ r. ⌜ r ≡ placeAfter (decimalOf n) at (now (out .entry)) ⌝ }
+    ensures { λ _. ⌜ now (out .exit) ≡ bufferAfter (decimalOf n) at (now (out .entry)) ⌝ }
+{
+    let mut digits = [0u8; 20];
+    let mut first = 19;
+    let mut rest = n;
+    while 10 <= rest {
+        digits[first] = b'0' + (rest % 10) as u8;
+        first -= 1;
+        rest /= 10;
+    }
+    digits[first] = b'0' + rest as u8;
+    put(&digits[first..], at, out)
+}
+
+pub fn put_bool(b: bool, at: usize, out: &mut [u8]) -> usize
+    ensures { λ r. ⌜ r ≡ placeAfter (boolText b) at (now (out .entry)) ⌝ }
+    ensures { λ _. ⌜ now (out .exit) ≡ bufferAfter (boolText b) at (now (out .entry)) ⌝ }
+{
+    if b {
+        return put(b"true", at, out);
+    }
+    put(b"false", at, out)
+}

@@ -1,0 +1,1 @@
+"""The cases of the trial driver, a file for each subject."""

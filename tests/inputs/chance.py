@@ -1,0 +1,120 @@
+"""Bodies, sheets and requests made at random."""
+from inputs.parts import plan, rule, table
+from oracle.protocol import (
+    guard_request, list_request, query_request, read_request, reference_request, write_request)
+from oracle.rows import Sheet
+from oracle.sheet import Refused, accepted, sheet_of
+
+
+def random_transitions(rng, states, count):
+    """About half without loops; most others with one through up to three states, so that it can be
+    reached from some states and not from others."""
+    shape = rng.choice(('no loop', 'no loop', 'one', 'one', 'any'))
+    place = rng.sample(range(states), states)
+    found = {(rng.randrange(states), rng.randrange(6), rng.randrange(states)) for _ in range(count)}
+    if shape != 'any':
+        found = {t for t in found if place[t[0]] < place[t[2]]}
+    if shape == 'one':
+        loop = rng.sample(range(states), rng.randrange(min(states, 3)) + 1)
+        found |= {(source, rng.randrange(6), to) for source, to in zip(loop, loop[1:] + loop[:1])}
+    return sorted(found)
+
+
+def random_rule(rng, most):
+    nodes, binders = [], []
+
+    def grow(budget, above):
+        n = len(nodes)
+        nodes.append(None)
+        kind = rng.randrange(9)
+        if budget < 2 or (budget < 3 and kind in (2, 3)):
+            kind = rng.choice((0, 1, 6))
+        if kind == 6 and not above:
+            kind = 1
+        if kind in (7, 8) and len(binders) >= 6 and rng.random() < 0.9:
+            kind = rng.choice((4, 5))
+        if kind in (0, 1):
+            nodes[n] = (kind, 0, 0)
+        elif kind == 6:
+            nodes[n] = (6, rng.choice(above), 0)
+        elif kind in (2, 3):
+            left = rng.randrange(1, budget - 1)
+            grow(left, above)
+            second = len(nodes)
+            grow(budget - 1 - left, above)
+            nodes[n] = (kind, n + 1, second)
+        elif kind in (4, 5):
+            grow(budget - 1, above)
+            nodes[n] = (kind, rng.randrange(3), n + 1)
+        else:
+            k = len(binders)
+            binders.append(n)
+            grow(budget - 1, above + [k])
+            nodes[n] = (kind, k, n + 1)
+
+    grow(most, [])
+    return rule(*nodes)
+
+
+def random_stretch(rng):
+    return sorted((rng.randrange(6), rng.randrange(6)))
+
+
+def random_judging(rng, most=(3, 8, 16)):
+    """an accepted sheet, its guard check, its word, a list, a query on a table from elsewhere"""
+    states = rng.randrange(1, 6)
+    p = plan(states, 6, random_transitions(rng, states, rng.randrange(10)))
+    first, last = random_stretch(rng)
+    a = table(rng.choice(((2, first, 0), (6, first, last))), (1, 0, 0), (5, 0, 0),
+              (rng.choice((3, 4)), 2, 0))
+    s = sheet_of(p, a, random_rule(rng, rng.choice(most)))
+    try:
+        size = Sheet(s).cells()
+    except Refused:
+        return
+    yield guard_request(s)
+    yield reference_request(s)
+    yield list_request(s, size + rng.randrange(2), rng.randrange(256),
+                       [rng.randrange(states + 1) for _ in range(rng.randrange(1, 7))])
+    often = rng.choice((0, 0.5, 0.9))
+    yield query_request(s, rng.randrange(states),
+                        bytes(0 if rng.random() < often else rng.randrange(3) for _ in range(size)))
+
+
+def damaged(rng, b):
+    b = bytearray(b)
+    for _ in range(rng.choice((0, 1, 1, 2))):
+        if b:
+            at = rng.randrange(len(b))
+            b[at] = rng.choice((b[at] ^ 1, b[at] + 1 & 255, b[at] - 1 & 255, 0, rng.randrange(10),
+                                rng.randrange(256)))
+    if rng.random() < 0.03:
+        b = b[:rng.randrange(len(b) + 1)]
+    return bytes(b)
+
+
+def random_reading(rng):
+    """three bodies, some of them damaged, for the reader and for the writer"""
+    count = rng.randrange(8)
+    p = plan(5, 6, sorted({(rng.randrange(5), rng.randrange(6), rng.randrange(5))
+                           for _ in range(count)}))
+    first, last = random_stretch(rng)
+    a = table((2, rng.randrange(6), 0), rng.choice(((1, 0, 0), (6, first, last))),
+              (rng.choice((3, 4)), 1, 0), (5, 2, 0))
+    r = random_rule(rng, rng.choice((1, 3, 10, 30, 64)))
+    p, a, r = (damaged(rng, b) if rng.random() < 0.4 else b for b in (p, a, r))
+    s = sheet_of(p, a, r)
+    yield read_request(damaged(rng, s) if rng.random() < 0.2 else s)
+    if rng.random() < 0.3:
+        yield write_request(p, a, r, max(0, len(s) + rng.randrange(-2, 3)), rng.randrange(256))
+
+
+def random_list(rng):
+    """a list on a plan of many states and transitions"""
+    states = rng.choice((10, 40, 63, 64, 65, 127, 128))
+    count = rng.randrange(1, rng.choice((2, 4, 8)) * states)
+    p = plan(states, 6, random_transitions(rng, states, count))
+    a, r = table((2, 0, 0), (5, 0, 0), (6, 1, 3)), random_rule(rng, rng.choice((1, 5, 12)))
+    if accepted(p, a, r):
+        s = sheet_of(p, a, r)
+        yield list_request(s, Sheet(s).cells(), 3, [rng.randrange(states + 1) for _ in range(20)])

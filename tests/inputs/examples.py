@@ -1,0 +1,70 @@
+"""The example sheets, with the words that their pages say of them."""
+from inputs.parts import F, K_ACTIONS, K_PLAN, K_RULE, T, plan, rule, table
+from oracle.program import line_of
+from oracle.sheet import sheet_of
+
+KEY = {
+    'name': 'key',
+    'title': 'The key sheet K. docs/FORMAT.md works through its bytes, its rows and its queries.',
+    'plan': 'Three states in a row: action 1 leads from state 0 to state 1, action 2 from state 1 '
+            'to state 2.',
+    'states': ['state 0', 'state 1', 'state 2'],
+    'actions': ['action 0', 'action 1', 'action 2'],
+    'formula': ['least X. some "2" T  or  some "0" X  or  least Y. (X or some "1" Y)'],
+    'rule': 'In words: action 2 can be done after some steps, each of them an action 0 or a run of '
+            'actions 1. From state 0 one action 1 and then action 2 do. X stands below Y with no '
+            '"some" or "every" between, so the rule is not guarded.',
+    'entries': ['action 0', 'action 1', 'action 2'],
+    'bodies': (K_PLAN, K_ACTIONS, K_RULE),
+}
+
+CUT_TRANSITIONS = [(0, 0, 1), (1, 1, 2), (1, 2, 3), (2, 3, 4), (3, 5, 6), (4, 4, 5), (5, 5, 6)]
+CUT_ENTRIES = table((2, 5, 0), (1, 0, 0), (2, 3, 0), (6, 1, 2), (5, 3, 0))
+CUT_RULE = rule((3, 1, 10), (7, 0, 2), (2, 3, 5), (4, 0, 4), T, (3, 6, 8), (4, 1, 7), T, (5, 1, 9),
+                (6, 0, 0), (8, 1, 11), (3, 12, 14), (5, 2, 13), F, (5, 4, 15), (6, 1, 0))
+
+
+def cutting(states, transitions):
+    return plan(states, 6, sorted(transitions)), CUT_ENTRIES, CUT_RULE
+
+
+CUT = {
+    'name': 'cut',
+    'title': 'A key is cut: clamp, probe, cut, deburr, release; a worn blank is released uncut.',
+    'plan': 'The blank is clamped and probed. What the probe finds decides: a sound blank is cut, '
+            'deburred and released, a worn one is released at once.',
+    'states': ['blank laid in', 'clamped', 'probed, found sound', 'probed, found worn', 'cut',
+               'deburred', 'released'],
+    'actions': ['clamp', 'probe finds the blank sound', 'probe finds the blank worn', 'cut',
+                'deburr', 'release'],
+    'formula': ['least X. (some "release" T  or  some "any" T and every "any" X)   and',
+                'greatest Y. (every "cut" F and every "no probe" Y)'],
+    'rule': 'In words: whatever the probe finds, the blank is released in the end; and there is no '
+            'cut before a probe.',
+    'entries': ['release', 'any action', 'cut', 'a probe: every action from 1 to 2',
+                'no probe: not entry 3'],
+    'bodies': cutting(7, CUT_TRANSITIONS),
+}
+
+# a piece that no transition leads to: from 7 to 8 and back
+SPARE_TRANSITIONS = [*CUT_TRANSITIONS, (7, 3, 8), (8, 4, 7), (8, 5, 6)]
+SPARE = {
+    **CUT,
+    'name': 'spare',
+    'title': 'The plan of cut.sheet with a discarded piece in which a key is cut and deburred over '
+             'and over.',
+    'plan': 'As in cut.txt. States 7 and 8 are left over from an earlier plan: they lead to one '
+            'another, round and round, and 8 to the release, but no step leads to them from state '
+            '0.',
+    'states': [*CUT['states'], 'put back', 'cut anew'],
+    'bodies': cutting(9, SPARE_TRANSITIONS),
+}
+
+WORN_KEPT = sheet_of(*cutting(7, [t for t in CUT_TRANSITIONS if t != (3, 5, 6)]))
+LOOP_AHEAD = sheet_of(*cutting(9, [*SPARE_TRANSITIONS, (5, 3, 8)]))
+
+CUT['also'] = ('Without the transition 3,5,6 the worn blank stays in the clamp for good, and the '
+               'program prints `%s`.' % line_of(WORN_KEPT))
+SPARE['also'] = ('The loop can\'t be reached from state 0, so the program judges as it does for '
+                 'cut.sheet. With the transition 5,3,8, a deburred key cut anew, it can, and the '
+                 'program prints `%s`.' % line_of(LOOP_AHEAD))

@@ -1,0 +1,65 @@
+"""The streams of requests: the one that is stored, and a longer one."""
+import random
+
+from inputs.bodies import reading_and_writing
+from inputs.chance import random_judging, random_list, random_reading
+from inputs.judging import judgings
+from inputs.loop_plans import loops_to_try
+from inputs.parts import (
+    K, K_ACTIONS, K_PLAN, K_RULE, LONG, LONG_ACTIONS, LONG_PLAN, T, TRUE, deepest, plan, rule)
+from inputs.to_try import to_try
+from oracle.protocol import (
+    answers, guard_request, list_request, query_request, read_request, reference_request,
+    write_request)
+from oracle.sheet import sheet_of, triples
+
+
+def stored():
+    yield from reading_and_writing()
+    for request, start in (*to_try(), *loops_to_try()):
+        assert answers(request).decode().replace('\n', '|').startswith(start), start
+        yield request
+    yield from judgings()
+
+
+# an unknown request ends the run: what follows it gives nothing
+ENDING = b'\0' + read_request(K)
+# and so does a request that is cut short
+CUT = read_request(K)[:-1]
+
+
+def large():
+    full = b'\3' * 65535
+    yield write_request(full, full, full, 65535, 200)
+    yield write_request(K_PLAN, full, full, 65535, 201)
+    yield write_request(*LONG, 65535, 202)
+    yield write_request(K_PLAN, K_ACTIONS, K_RULE, 65535, 90)
+    yield write_request(K_PLAN, K_ACTIONS, K_RULE + b'\7' * (65535 - len(K_RULE)), 3, 9)
+    yield read_request(full)
+    rng = random.Random(1)
+    for _ in range(4000):
+        yield from random_reading(rng)
+    yield list_request(deepest(), 65535, 3, range(129))
+    yield query_request(K, 0, bytes(65535))
+    yield query_request(K, 0, full)
+    yield guard_request(full)
+    yield reference_request(full)
+    yield list_request(K, 65535, 3, bytes(65535))
+    for _ in range(1500):
+        yield from random_judging(rng, (3, 8, 16, 40, 64))
+    # each plan of three states and one action
+    for chosen in range(512):
+        p = plan(3, 1, [(k // 3, 0, k % 3) for k in range(9) if chosen >> k & 1])
+        for kind in (7, 8):
+            r = rule((kind, 0, 1), (3, 2, 4), (5, 0, 3), (6, 0, 0), (5, 0, 5), (4, 0, 6), T)
+            s = sheet_of(p, TRUE, r)
+            yield reference_request(s)
+            yield list_request(s, 42, kind, rng.sample(range(4), 4))
+            yield query_request(s, rng.randrange(3),
+                                bytes(rng.choice((0, 0, 1, 2)) for _ in range(42)))
+    for _ in range(200):
+        yield from random_list(rng)
+    # about the longest plan, with three states that lead to no loop
+    transitions = [t for t in triples(LONG_PLAN, 4) if t[0] not in (50, 70, 100)]
+    p = plan(128, 255, sorted([*transitions, (50, 0, 70), (70, 254, 100)]))
+    yield list_request(sheet_of(p, LONG_ACTIONS, rule((4, 1, 1), T)), 256, 0, range(129))

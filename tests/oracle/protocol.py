@@ -1,0 +1,147 @@
+"""The trial driver's protocol (docs/TRIALS.md): requests as bytes, and the lines they give."""
+from oracle.rows import clear, query
+from oracle.sheet import Refused, read_sheet, two, word, write_sheet
+from oracle.table1 import guarded, reference
+
+
+def blob_of(b):
+    return two(len(b)) + bytes(b)
+
+
+def read_request(s):
+    return b'\x01' + blob_of(s)
+
+
+def guard_request(s):
+    return b'\x02' + blob_of(s)
+
+
+def reference_request(s):
+    return b'\x03' + blob_of(s)
+
+
+def list_request(s, size, fill, states):
+    return b'\x04' + blob_of(s) + two(size) + bytes([fill]) + blob_of(states)
+
+
+def query_request(s, state, tab):
+    return b'\x05' + blob_of(s) + bytes([state]) + blob_of(tab)
+
+
+def write_request(p, a, r, size, fill):
+    return b'\x06' + blob_of(p) + blob_of(a) + blob_of(r) + two(size) + bytes([fill])
+
+
+def yes(b):
+    return 'true' if b else 'false'
+
+
+def reported(name, call, *refused):
+    """what a call gives, or its refusal with the values that a refused call has"""
+    try:
+        values = (0, 0, *call())
+    except Refused as f:
+        values = (f.number, f.place, *refused)
+    return '%s %s\n' % (name, ' '.join(map(str, values)))
+
+
+def judged(sheet, state, tab):
+    verdict, visits = query(sheet, state, tab)
+    return yes(verdict), visits
+
+
+def cleared(sheet, tab):
+    clear(sheet, tab)
+    return []
+
+
+def asked(sheet, state, tab):
+    return reported('query', lambda: judged(sheet, state, tab), 'false', 0)
+
+
+def written(bodies, out):
+    sheet = write_sheet(*bodies, len(out))
+    out[:len(sheet)] = sheet
+    return [len(sheet)]
+
+
+class Cut(Exception):
+    """the input ends, or a byte is no request"""
+
+
+class Stream:
+    def __init__(self, given):
+        self.given, self.at = given, 0
+
+    def take(self, n):
+        if self.at + n > len(self.given):
+            raise Cut
+        self.at += n
+        return self.given[self.at - n:self.at]
+
+    def byte(self):
+        return self.take(1)[0]
+
+    def word(self):
+        return word(self.take(2), 0)
+
+    def blob(self):
+        return self.take(self.word())
+
+    def buffer(self):
+        """a length and a fill byte"""
+        size = self.word()
+        return bytearray(self.take(1) * size)
+
+
+def answer_read(stream):
+    sheet = stream.blob()
+    return reported('read', lambda: read_sheet(sheet), *[0] * 6)
+
+
+def answer_guard(stream):
+    sheet = stream.blob()
+    return reported('guard', lambda: [yes(guarded(sheet))], 'false')
+
+
+def answer_reference(stream):
+    sheet = stream.blob()
+    return reported('reference', lambda: [reference(sheet)], 0)
+
+
+def answer_list(stream):
+    sheet, tab, states = stream.blob(), stream.buffer(), stream.blob()
+    text = reported('clear', lambda: cleared(sheet, tab))
+    return text + ''.join(asked(sheet, s, tab) for s in states) + 'table %s\n' % tab.hex()
+
+
+def answer_query(stream):
+    sheet, state, tab = stream.blob(), stream.byte(), bytearray(stream.blob())
+    return asked(sheet, state, tab) + 'table %s\n' % tab.hex()
+
+
+def answer_write(stream):
+    bodies, out = [stream.blob() for _ in range(3)], stream.buffer()
+    return reported('write', lambda: written(bodies, out), 0) + 'out %s\n' % out.hex()
+
+
+ANSWERS = {1: answer_read, 2: answer_guard, 3: answer_reference, 4: answer_list, 5: answer_query,
+           6: answer_write}
+
+
+def answered(given):
+    """each request of a stream with what it gives"""
+    stream = Stream(given)
+    try:
+        while True:
+            start, number = stream.at, stream.byte()
+            if number not in ANSWERS:
+                raise Cut
+            text = ANSWERS[number](stream)
+            yield given[start:stream.at], text.encode()
+    except Cut:
+        return
+
+
+def answers(given):
+    return b''.join(text for _, text in answered(given))
