@@ -1,2 +1,3 @@
 pub mod Since
 pub mod GuardSteps
+pub mod GuardCalls

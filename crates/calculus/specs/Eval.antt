@@ -1,14 +1,16 @@
 -- Table 1 computed: a least fixed point by S rounds from the empty set, a greatest by S rounds from the full set. It is Table 1's meaning
 -- (holds-eval and eval-holds of proofs/table1/Decide.antt), and each promise that speaks of it has one beside it that does not: ByTable1
 -- of the crate reference.
-use Prim.Native.Nat.{ℕ, zero, suc}
+use Prim.Native.Nat.{ℕ, zero, suc, _<_}
+use mathlib.Core.Path.{_≡_}
 use mathlib.Core.Bool.{Bool, true, false, not, _&&_, _||_}
 use mathlib.Core.List.{List, [], _∷_}
+use mathlib.Core.Logic.{_↔_}
 use lib.Dec.{eqb}
 use lib.ListN.{getD}
 use Rattle.calculus.specs.Formulas.{ActionFormula, Formula, falseFormula, trueFormula, disj, conj, some, every, var, least, greatest}
-use Rattle.sheet.specs.TransitionSystem.{LabelledTransition, Plan}
-use Rattle.calculus.specs.Meaning.{meets, bind}
+use Rattle.sheet.specs.TransitionSystem.{LabelledTransition, Plan, TransitionsInRange}
+use Rattle.calculus.specs.Meaning.{meets, bind, Holds}
 
 -- no state
 abbrev pub emptySet : ℕ → Bool
@@ -52,3 +54,10 @@ eval P (every α φ) ρ = let a = eval P φ ρ in λ s. not (anyTransition (λ t
 eval P (var X) ρ = ρ X
 eval P (least X φ) ρ = rounds (P .states) (λ U. eval P φ (bind ρ X U)) (P .states) emptySet
 eval P (greatest X φ) ρ = rounds (P .states) (λ U. eval P φ (bind ρ X U)) (P .states) fullSet
+
+-- What is computed is Table 1's meaning, at every state of every plan whose transitions are in range, as those of an accepted sheet are
+-- (PlanInRange of the crate sheet). "Facts about sets are shown for any number of states, not per size." Shown by eval-meaning of
+-- proofs/table1/Decide.antt.
+abbrev pub EvalMeaning : Type 0
+EvalMeaning =
+    (P : Plan) → TransitionsInRange P → (φ : Formula) (ρ : ℕ → ℕ → Bool) (s : ℕ) → s < P .states → (eval P φ ρ s ≡ true) ↔ Holds P φ ρ s

@@ -1,6 +1,7 @@
--- Document 01, "Sheets to try": the key sheet, an example that several layers judge.
+-- Document 01, "Sheets to try": the sheets that several layers judge, the key sheet and that of P11.
 use Prim.Native.Nat.{ℕ}
 use mathlib.Core.List.{List, [], _∷_}
+use Rattle.sheet.specs.Writing.{sheetOf}
 
 -- "The key sheet K has 74 bytes": with the kind of its first rule node
 abbrev pub keySheet : ℕ → List ℕ
@@ -14,3 +15,9 @@ keySheet kind =
 -- K: its first rule node is a least fixed point
 abbrev pub K : List ℕ
 K = keySheet 7
+
+-- "plan 1,1,1,0, 0,0,0 (one state with a transition to itself)", "the action table 1, 1,0,0", and a fixed point of a kind, X, of "every"
+-- true X
+abbrev pub looped : ℕ → List ℕ
+looped kind =
+    sheetOf (1 ∷ 1 ∷ 1 ∷ 0 ∷ 0 ∷ 0 ∷ 0 ∷ []) (1 ∷ 1 ∷ 0 ∷ 0 ∷ []) (3 ∷ kind ∷ 0 ∷ 1 ∷ 5 ∷ 0 ∷ 2 ∷ 6 ∷ 0 ∷ 0 ∷ [])

@@ -5,21 +5,11 @@ use sheet::Node;
 use sheet::Variable;
 use sheet::reader::check;
 use sheet::reader::rule_body;
-use sheet::rule::binder_node;
+use sheet::rule::bound_before;
 use sheet::rule::node;
 ghost use mathlib.Core.Path.{_≡_};
-ghost use lib.Dec.{ltb};
-ghost use Rattle.sheet.specs.Rule.{binderNode};
 ghost use Rattle.calculus.specs.internal.GuardContracts.{Since, GuardedSince};
-ghost use Rattle.calculus.specs.GuardCheck.{guardOf, reportedGuard, guardReportOf};
-
-// Whether the node that binds variable k stands before node first.
-fn bound_before(rule: &[u8], k: Variable, first: Node) -> bool
-    ensures { λ b. ⌜ b ≡ ltb (binderNode (now (rule .entry)) (k .0)) (first .0) ⌝ }
-{
-    let binder = binder_node(rule, k);
-    binder.0 < first.0
-}
+ghost use Rattle.calculus.specs.GuardCheck.{Guards};
 
 // Whether the formula of node n is guarded. Definition 2's set has the variables whose binders stand from node first on: a binder joins it, a modality
 // empties it, and a variable must not be in it.
@@ -49,8 +39,7 @@ fn guarded_since(rule: &[u8], n: Node, first: Node) -> bool
 
 // Yes or no for an accepted sheet, or its refusal.
 pub fn guard(sheet: &[u8]) -> Guard
-    ensures { λ r. ⌜ r ≡ guardOf (now (sheet .entry)) ⌝ }
-    ensures { λ r. ⌜ reportedGuard r ≡ guardReportOf (now (sheet .entry)) ⌝ }
+    ensures { λ r. ⌜ Guards (now (sheet .entry)) r ⌝ }
 {
     let checked = check(sheet);
     match checked {

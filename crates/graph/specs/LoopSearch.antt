@@ -48,9 +48,12 @@ reportedLoopSearch (Refused r) = record { number = numberOf r; place = placeOf r
 abbrev pub loopSearchReportOf : List ℕ → ℕ → LoopSearchReport
 loopSearchReportOf p state = reportedLoopSearch (loopSearchOf p state)
 
--- A loop is answered exactly for a state of a well-formed plan from which one can be reached (`loop-found-exactly` of
--- proofs/answers/LoopFoundExactly.antt).
-abbrev pub LoopFoundExactly : Type 0
-LoopFoundExactly =
-    (p : List ℕ) (state : ℕ)
-    → (loopSearchOf p state ≡ Found) ↔ (WellFormedPlan p × (state < stateCount p) × LoopReachable (successors p) state)
+-- A loop is answered exactly for a state of a well-formed plan from which one can be reached, and none exactly for one from which none
+-- can (`loop-found-exactly` of proofs/answers/LoopFoundExactly.antt).
+pub record LoopFoundExactly : Type 0 where
+  pub found :
+      (p : List ℕ) (state : ℕ)
+      → (loopSearchOf p state ≡ Found) ↔ (WellFormedPlan p × (state < stateCount p) × LoopReachable (successors p) state)
+  pub free :
+      (p : List ℕ) (state : ℕ)
+      → (loopSearchOf p state ≡ Free) ↔ (WellFormedPlan p × (state < stateCount p) × (LoopReachable (successors p) state → ⊥))

@@ -24,7 +24,7 @@ abbrev pub loopFree : List ℕ → ℕ → Bool
 loopFree p state = settled (successors p) (stateCount p) state
 
 -- Document 02 (b), "exactly when a loop can be reached from the queried state": of a well-formed plan, at a state that it has, the test
--- passes exactly where no loop can be reached (`free-exactly-closed` of proofs/looptest/LoopFree.antt).
+-- passes exactly where no loop can be reached (`free-exactly` of proofs/looptest/LoopFree.antt).
 abbrev pub FreeExactly : Type 0
 FreeExactly =
     (p : List ℕ) → WellFormedPlan p → (state : ℕ) → state < stateCount p

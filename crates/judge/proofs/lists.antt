@@ -1,2 +1,4 @@
 pub mod JustCleared
 pub mod SheetLists
+pub mod Called
+pub mod LongerTables

@@ -17,7 +17,7 @@ use Rattle.rows.specs.Rows.{Row, disjunction, conjunction}
 use Rattle.rows.specs.Tables.{constant}
 
 -- "A cell is (mark, node, state)": a boolean variable of the equation system (document 000, Table 2 and Definition 6). "Mark 0: no binder
--- is open. Mark k + 1: binder k and the binders below it are open": a binder is open while no modality was crossed since it was entered.
+-- is open. Mark k + 1: binder k and the binders below it are open"; what an open binder's variable stands for is said by its row.
 pub record Cell : Type 0 where
   pub mark : ℕ
   pub node : ℕ
@@ -25,7 +25,7 @@ pub record Cell : Type 0 where
 
 -- "(mark, node, state)"
 abbrev pub cell : ℕ → ℕ → ℕ → Cell
-cell m n s = record { mark = m; node = n; state = s }
+cell m n state = record { mark = m; node = n; state = state }
 
 -- "Mark k + 1 .. is used only with nodes below binder k."
 abbrev pub MarkRight : List ℕ → ℕ → ℕ → Type 0
@@ -44,10 +44,10 @@ oneEntry c = record { connective = disjunction; entries = c ∷ [] }
 
 -- "(0, child, s') for each transition from s to s' whose action meets the formula, in plan order": of the transitions in a list
 unfoldable pub following : ℕ → List ℕ → ℕ → ℕ → ℕ → List LabelledTransition → List Cell
-following A a e child s [] = []
-following A a e child s (t ∷ ts) =
-    pick (eqb (t .origin) s && meets A (actionFormula a e) (t .action)) (cell 0 child (t .target) ∷ following A a e child s ts)
-    (following A a e child s ts)
+following A a e child state [] = []
+following A a e child state (t ∷ ts) =
+    pick (eqb (t .origin) state && meets A (actionFormula a e) (t .action)) (cell 0 child (t .target) ∷ following A a e child state ts)
+    (following A a e child state ts)
 
 -- "under k + 1 if m = 0, else under m"
 abbrev pub opened : ℕ → ℕ → ℕ
@@ -133,6 +133,24 @@ tableBytes s = tableBytesFor (cellBytes s)
 abbrev pub positionOf : List ℕ → Cell → ℕ
 positionOf r c = (c .state * nodeCount r + c .node) * marks r + c .mark
 
--- the cell at a byte: the inverse of positionOf on a sheet's cells (`layout` of proofs/cells/CellLayout.antt)
+-- the cell whose byte this is (TableLayout, below)
 abbrev pub cellAt : List ℕ → ℕ → Cell
 cellAt r i = cell (i % marks r) (i / marks r % nodeCount r) (i / marks r / nodeCount r)
+
+-- the cells that have a byte: mark at most B, node below N, state below S. Some of them are no cell of the sheet, since a mark "is used
+-- only with nodes below" its binder
+pub record InTable (s : List ℕ) (c : Cell) : Type 0 where
+  pub mark-below : c .mark < marks (ruleBody s)
+  pub node-below : c .node < nodeCount (ruleBody s)
+  pub state-below : c .state < stateCount (planBody s)
+
+-- "The table lies in the first S × N × (B + 1) bytes ..; cell (m, n, s) is byte (s × N + n) × (B + 1) + m": each of these bytes is that of
+-- one cell (`table-layout` of proofs/cells/CellLayout.antt)
+pub record TableLayout : Type 0 where
+  -- the cells of a sheet have one
+  pub cells : (s : List ℕ) (c : Cell) → CellOf (planBody s) (ruleBody s) c → InTable s c
+  pub inside : (s : List ℕ) (c : Cell) → InTable s c → positionOf (ruleBody s) c < cellBytes s
+  pub whole :
+      (s : List ℕ) (i : ℕ) → i < cellBytes s
+      → InTable s (cellAt (ruleBody s) i) × (positionOf (ruleBody s) (cellAt (ruleBody s) i) ≡ i)
+  pub apart : (s : List ℕ) (c d : Cell) → InTable s c → InTable s d → positionOf (ruleBody s) c ≡ positionOf (ruleBody s) d → c ≡ d

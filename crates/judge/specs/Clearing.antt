@@ -1,5 +1,6 @@
 -- Clearing: what it answers and what it leaves in the table's buffer, for every list of bytes as sheet and as buffer.
 use Prim.Native.Nat.{ℕ}
+use mathlib.Core.Path.{_≡_}
 use mathlib.Core.List.{List, _++_}
 use lib.ListN.{length, drop, replicate}
 use lib.Dec.{leb}
@@ -47,3 +48,7 @@ reportedClear (Refused r) = record { number = numberOf r; place = placeOf r }
 -- what clearing reports for every sheet and every buffer
 abbrev pub clearReportOf : List ℕ → List ℕ → ClearReport
 clearReportOf s t = reportedClear (clearedOf s t)
+
+-- The contract of `clear`: a call on the sheet s and the buffer t answered r and left u. Demand 3 of the running calls speaks of it.
+abbrev pub Clears : List ℕ → List ℕ → Cleared → List ℕ → Type 0
+Clears s t r u = (r ≡ clearedOf s t) × ((reportedClear r ≡ clearReportOf s t) × (u ≡ tableCleared s t))

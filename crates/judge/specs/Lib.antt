@@ -4,9 +4,11 @@ pub mod Cells
 pub mod Clearing
 pub mod Querying
 pub mod OneSolution
+pub mod QueryCorrect
+pub mod CallNumbers
 -- "Lists of queries"
+pub mod Lists
 pub mod Demand3
-pub mod RunningCalls
 -- "Sheets to try"
 pub mod SheetsToTry
 -- what private functions ask and promise; nobody has to believe it

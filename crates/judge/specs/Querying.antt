@@ -77,6 +77,12 @@ reportedQuery (Refused r) = record { number = numberOf r; place = placeOf r; ver
 abbrev pub queryReportOf : List ℕ → ℕ → List ℕ → QueryReport
 queryReportOf s state t = reportedQuery (queriedOf s state t)
 
+-- The contract of `query`: a call on the sheet s, a state and the table t answered r and left u. Demand 3 of the running calls and
+-- QueriesCorrect speak of it.
+abbrev pub Queries : List ℕ → ℕ → List ℕ → Queried → List ℕ → Type 0
+Queries s state t r u =
+    (r ≡ queriedOf s state t) × ((reportedQuery r ≡ queryReportOf s state t) × (u ≡ tableQueried s state t))
+
 -- Document 02 (b): "A query now gives 12 exactly when a loop can be reached from the queried state (12 coming in its order)": after 1 to
 -- 10, so the sheet is accepted; after 11, so the plan has the state; before 20 and 21, whatever the table
 abbrev pub TwelveExactly : Type 0

@@ -6,14 +6,11 @@ use crate::table::zero;
 use sheet::Check;
 use sheet::Refusal;
 use sheet::reader::check;
-ghost use mathlib.Core.Path.{_≡_};
-ghost use Rattle.judge.specs.Clearing.{clearedOf, tableCleared, reportedClear, clearReportOf};
+ghost use Rattle.judge.specs.Clearing.{Clears};
 
 // "Clearing sets them to 0; it doesn't look for loops."
 pub fn clear(sheet: &[u8], table: &mut [u8]) -> Cleared
-    ensures { λ r. ⌜ r ≡ clearedOf (now (sheet .entry)) (now (table .entry)) ⌝ }
-    ensures { λ r. ⌜ reportedClear r ≡ clearReportOf (now (sheet .entry)) (now (table .entry)) ⌝ }
-    ensures { λ _. ⌜ now (table .exit) ≡ tableCleared (now (sheet .entry)) (now (table .entry)) ⌝ }
+    ensures { λ r. ⌜ Clears (now (sheet .entry)) (now (table .entry)) r (now (table .exit)) ⌝ }
 {
     let checked = check(sheet);
     match checked {

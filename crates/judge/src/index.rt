@@ -17,7 +17,7 @@ ghost use Rattle.sheet.specs.Plan.{label, target};
 ghost use Rattle.sheet.specs.Rule.{nodeKind, nodeX, nodeY};
 ghost use Rattle.sheet.specs.Bytes.{byte};
 ghost use Rattle.graph.specs.Index.{indexSize, firstsAt, actionsAt};
-ghost use Rattle.judge.specs.internal.Index.{bindersAt, NodeAt, TransitionAt};
+ghost use Rattle.judge.specs.internal.Index.{bindersAt, BinderAt, NodeAt, TransitionAt};
 
 // Where the rule lies in the sheet, how many nodes and how many marks it has, and from BINDERS_AT on the binders' nodes.
 pub(crate) const RULE_AT: usize = 0;
@@ -65,9 +65,9 @@ pub(crate) fn y_of(sheet: &[u8], index: &Index, node: Node) -> u8
     node_byte(sheet, index, node, 3)
 }
 
-// The node of binder k.
+// The node that binds one of the B variables.
 pub(crate) fn binder_of(index: &Index, k: Variable) -> Node
-    requires { ⌜ (k .0 < 6) × (getD (now index) (bindersAt + k .0) 0 < 256) ⌝ }
+    requires { ⌜ BinderAt (now index) (k .0) ⌝ }
     ensures { λ r. ⌜ r .0 ≡ getD (now (index .entry)) (bindersAt + k .0) 0 ⌝ }
 {
     Node(number(index, BINDERS_AT + wide(k.0)) as u8)

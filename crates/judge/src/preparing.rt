@@ -3,6 +3,7 @@ use crate::index::BINDERS_AT;
 use crate::index::MARKS_AT;
 use crate::index::NODES_AT;
 use crate::index::RULE_AT;
+use crate::index::number;
 use crate::widen::wide;
 use calculus::meeting::meeting;
 use graph::ACTIONS_AT;
@@ -20,20 +21,17 @@ use sheet::rule::binder_count;
 use sheet::rule::is_binder;
 use sheet::rule::node_count;
 ghost use mathlib.Core.Path.{_≡_};
-ghost use mathlib.Core.Bool.{true, _&&_};
-ghost use Prim.Native.Nat.{_<_, _≤_};
+ghost use mathlib.Core.Bool.{true};
+ghost use Prim.Native.Nat.{_<_};
 ghost use lib.ListN.{length};
-ghost use lib.Dec.{leb};
-ghost use Rattle.sheet.specs.Bytes.{lowest};
 ghost use Rattle.sheet.specs.Contents.{planBody};
 ghost use Rattle.sheet.specs.Plan.{stateCount};
-ghost use Rattle.sheet.specs.Rule.{nodeCount, isBinder};
 ghost use Rattle.sheet.specs.Reading.{sheetCheck};
 ghost use Rattle.sheet.specs.declared.Check.the-variants.{Passed};
 ghost use Rattle.graph.specs.LoopTest.{loopFree};
 ghost use Rattle.graph.specs.Index.{indexSize};
 ghost use Rattle.judge.specs.internal.Index.{Prepared};
-ghost use Rattle.judge.specs.internal.Preparing.{Headed, Binders, Masks};
+ghost use Rattle.judge.specs.internal.Preparing.{Headed, BindersAsked, Binders, Masks};
 
 // Where the rule lies, and how many nodes and marks it has.
 fn put_head(sheet: &[u8], index: &mut Index)
@@ -46,34 +44,22 @@ fn put_head(sheet: &[u8], index: &mut Index)
     index[MARKS_AT] = binder_count(rule) as u32 + 1;
 }
 
-// The first binder from a node on, or the number of nodes where none is left.
-fn next_binder(rule: &[u8], from: Node) -> Node
-    ensures { λ r. ⌜ r .0 ≡ lowest (λ n. leb (from .0) n && isBinder (now (rule .entry)) n) (nodeCount (now (rule .entry))) ⌝ }
-{
-    let count = node_count(rule);
-    let first = from.0;
-    let mut n = first;
-    while n < count {
-        if is_binder(rule, Node(n)) {
-            return Node(n);
-        }
-        n += 1;
-    }
-    Node(count)
-}
-
-// The binders' nodes.
+// The nodes of the B binders.
 fn put_binders(rule: &[u8], index: &mut Index)
-    requires { ⌜ (nodeCount (now rule) ≤ 64) × (length (now index) ≡ indexSize) ⌝ }
+    requires { ⌜ BindersAsked (now rule) (now index) ⌝ }
     ensures { λ _. ⌜ Binders (now (rule .entry)) (now (index .entry)) (now (index .exit)) ⌝ }
 {
-    let mut n: u8 = 0;
+    let binders = number(index, MARKS_AT) - 1;
     let mut k: usize = 0;
-    while k < 6 {
-        let binder = next_binder(rule, Node(n));
-        index[BINDERS_AT + k] = binder.0 as u32;
-        n = binder.0 + 1;
-        k += 1;
+    let mut n: u8 = 0;
+    while k < binders {
+        if is_binder(rule, Node(n)) {
+            index[BINDERS_AT + k] = n as u32;
+            k += 1;
+            n += 1;
+            continue;
+        }
+        n += 1;
     }
 }
 

@@ -20,14 +20,12 @@ ghost use mathlib.Core.Path.{_≡_};
 ghost use Rattle.sheet.specs.Reading.{sheetCheck};
 ghost use Rattle.sheet.specs.declared.Check.the-variants.{Passed};
 ghost use Rattle.judge.specs.internal.Index.{QueryRequires};
-ghost use Rattle.judge.specs.Querying.{queriedOf, tableQueried, reportedQuery, queryReportOf};
+ghost use Rattle.judge.specs.Querying.{Queries};
 
 // The query of an accepted sheet, with all prepared: refusals 20 and 21, then the root's cell is decided.
 fn judge_prepared(sheet: &[u8], index: &Index, state: State, table: &mut [u8]) -> Queried
     requires { ⌜ QueryRequires (now sheet) (now index) (state .0) ⌝ }
-    ensures { λ r. ⌜ r ≡ queriedOf (now (sheet .entry)) (state .0) (now (table .entry)) ⌝ }
-    ensures { λ r. ⌜ reportedQuery r ≡ queryReportOf (now (sheet .entry)) (state .0) (now (table .entry)) ⌝ }
-    ensures { λ _. ⌜ now (table .exit) ≡ tableQueried (now (sheet .entry)) (state .0) (now (table .entry)) ⌝ }
+    ensures { λ r. ⌜ Queries (now (sheet .entry)) (state .0) (now (table .entry)) r (now (table .exit)) ⌝ }
 {
     let cells = cell_bytes(sheet);
     if table.len() < table_bytes_for(cells) {
@@ -46,9 +44,7 @@ fn judge_prepared(sheet: &[u8], index: &Index, state: State, table: &mut [u8]) -
 // The query of an accepted sheet: refusals 11 and 12 first.
 fn judge_accepted(sheet: &[u8], state: State, table: &mut [u8]) -> Queried
     requires { ⌜ sheetCheck (now sheet) ≡ Passed ⌝ }
-    ensures { λ r. ⌜ r ≡ queriedOf (now (sheet .entry)) (state .0) (now (table .entry)) ⌝ }
-    ensures { λ r. ⌜ reportedQuery r ≡ queryReportOf (now (sheet .entry)) (state .0) (now (table .entry)) ⌝ }
-    ensures { λ _. ⌜ now (table .exit) ≡ tableQueried (now (sheet .entry)) (state .0) (now (table .entry)) ⌝ }
+    ensures { λ r. ⌜ Queries (now (sheet .entry)) (state .0) (now (table .entry)) r (now (table .exit)) ⌝ }
 {
     if state_count(plan_body(sheet)) <= state.0 {
         return Queried::Refused(Refusal::NoSuchState);
@@ -62,9 +58,7 @@ fn judge_accepted(sheet: &[u8], state: State, table: &mut [u8]) -> Queried
 
 // "A query takes a sheet, a state s and a table. It gives the solution at (0, 0, s)", fills the needed cells that were empty and counts them.
 pub fn query(sheet: &[u8], state: State, table: &mut [u8]) -> Queried
-    ensures { λ r. ⌜ r ≡ queriedOf (now (sheet .entry)) (state .0) (now (table .entry)) ⌝ }
-    ensures { λ r. ⌜ reportedQuery r ≡ queryReportOf (now (sheet .entry)) (state .0) (now (table .entry)) ⌝ }
-    ensures { λ _. ⌜ now (table .exit) ≡ tableQueried (now (sheet .entry)) (state .0) (now (table .entry)) ⌝ }
+    ensures { λ r. ⌜ Queries (now (sheet .entry)) (state .0) (now (table .entry)) r (now (table .exit)) ⌝ }
 {
     let checked = check(sheet);
     match checked {

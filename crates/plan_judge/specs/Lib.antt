@@ -1,2 +1,3 @@
-pub mod Program
 pub mod Line
+pub mod Program
+pub mod Buffers

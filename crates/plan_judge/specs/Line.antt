@@ -1,7 +1,10 @@
 -- "prints one line, ended by a line feed: `true` or `false`, a space, the visits; or `refused`, a space, the number, a space, the place"
-use Prim.Native.Nat.{ℕ}
+use Prim.Native.Nat.{ℕ, _≤_}
+use mathlib.Core.Path.{_≡_}
 use mathlib.Core.List.{List, _++_}
+use lib.ListN.{length}
 use Rattle.text.specs.Decimal.{decimalOf}
+use Rattle.text.specs.Placing.{startingWith}
 use Rattle.text.specs.Words.{space, lineFeed, boolText, refused}
 use Rattle.sheet.specs.Refusals.{numberOf, placeOf}
 use Rattle.judge.specs.declared.Queried.{Queried}
@@ -11,3 +14,15 @@ use Rattle.judge.specs.declared.Queried.the-variants.{Judged, Refused}
 unfoldable pub lineOf : Queried → List ℕ
 lineOf (Judged v n) = boolText v ++ space ++ decimalOf n ++ lineFeed
 lineOf (Refused r) = refused ++ space ++ decimalOf (numberOf r) ++ space ++ decimalOf (placeOf r) ++ lineFeed
+
+-- `refused`, two numbers of at most 20 digits, two spaces and the line feed
+abbrev pub lineLength : ℕ
+lineLength = 50
+
+-- no line is longer
+abbrev pub EveryLineFits : Type 0
+EveryLineFits = (answer : Queried) → length (lineOf answer) ≤ lineLength
+
+-- a line put at the start of a buffer: n is its length, and the bytes after it are as before
+abbrev pub PutsLine : List ℕ → ℕ → List ℕ → List ℕ → Type 0
+PutsLine line n before after = (n ≡ length line) × (after ≡ startingWith line before)

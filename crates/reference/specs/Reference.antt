@@ -23,8 +23,8 @@ use Rattle.calculus.specs.Eval.{eval}
 use Rattle.reference.specs.declared.Reference.{Reference}
 use Rattle.reference.specs.declared.Reference.the-variants.{Word, Refused}
 
--- The states in the meaning of the rule, as a set. `eval` goes by the lines of Table 1, a least fixed point by S rounds from the empty
--- set and a greatest by S rounds from the full set; that this is Table 1's meaning is said by ByTable1 below, which does not speak of it.
+-- The states in the meaning of the rule, as a set, read below S. `eval` goes by the lines of Table 1, a least fixed point by S rounds from
+-- the empty set and a greatest by S rounds from the full set; that this is Table 1's meaning is EvalMeaning of the crate calculus.
 unfoldable pub inMeaning : List ℕ → ℕ → Bool
 inMeaning s = eval (planOf (planBody s)) (formula (actionsBody s) (ruleBody s) 0) emptyContext
 
@@ -74,3 +74,7 @@ pub record ByTable1 (s : List ℕ) (r : Reference) : Type 0 where
   pub accepted : sheetCheck s ≡ Passed → stateCount (planBody s) ≤ 64 → MeaningWord s r
   pub large : sheetCheck s ≡ Passed → 64 < stateCount (planBody s) → r ≡ Refused TooManyStates
   pub refused : (x : Refusal) → sheetCheck s ≡ Failed x → r ≡ Refused x
+
+-- `reference` on the sheet s answered r: the clauses of its contract. That such an answer is right by Table 1 is demand 2.
+abbrev pub References : List ℕ → Reference → Type 0
+References s r = (r ≡ referenceOf s) × (reportedReference r ≡ referenceReportOf s)

@@ -7,21 +7,17 @@ use crate::table1::meetings;
 use sheet::Check;
 use sheet::Node;
 use sheet::Refusal;
-use sheet::Variable;
 use sheet::plan::action_count;
 use sheet::plan::state_count;
 use sheet::reader::actions_body;
 use sheet::reader::check;
 use sheet::reader::plan_body;
 use sheet::reader::rule_body;
-ghost use mathlib.Core.Path.{_≡_};
-ghost use Rattle.reference.specs.Reference.{referenceOf, reportedReference, referenceReportOf, ByTable1};
+ghost use Rattle.reference.specs.Reference.{References};
 
 // Bit s is set exactly when state s is in the meaning of the rule.
 pub fn reference(sheet: &[u8]) -> Reference
-    ensures { λ r. ⌜ r ≡ referenceOf (now (sheet .entry)) ⌝ }
-    ensures { λ r. ⌜ reportedReference r ≡ referenceReportOf (now (sheet .entry)) ⌝ }
-    ensures { λ r. ⌜ ByTable1 (now (sheet .entry)) r ⌝ }
+    ensures { λ r. ⌜ References (now (sheet .entry)) r ⌝ }
 {
     let checked = check(sheet);
     match checked {
@@ -34,7 +30,7 @@ pub fn reference(sheet: &[u8]) -> Reference
             }
             let masks = meetings(actions_body(sheet), action_count(plan));
             let mut context: [u64; 6] = [0; 6];
-            restart(rule_body(sheet), &mut context, Variable(0), 8, all(states));
+            restart(rule_body(sheet), &mut context, Node(0), 8, all(states));
             Reference::Word(evaluate(sheet, &masks, Node(0), &mut context))
         }
     }

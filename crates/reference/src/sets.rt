@@ -1,14 +1,16 @@
 // Sets of states as words, bit s for state s, and the context that gives each variable its set.
+use sheet::Node;
 use sheet::State;
 use sheet::Variable;
-use sheet::rule::binder_node;
 use sheet::rule::node;
+use sheet::rule::node_count;
 ghost use mathlib.Core.Path.{_≡_};
 ghost use Prim.Native.Nat.{_-_, _^_, _<_, _≤_};
 ghost use lib.ListN.{getD, set};
 ghost use lib.Bits.{bitOr};
 ghost use Rattle.calculus.specs.MeetingMask.{bit};
-ghost use Rattle.reference.specs.internal.Evaluating.{binderKind, Restarted};
+ghost use Rattle.sheet.specs.Rule.{nodeCount};
+ghost use Rattle.reference.specs.internal.Evaluating.{Restartable, Restarted};
 
 // The set of all states.
 pub(crate) fn all(states: u8) -> u64
@@ -55,26 +57,20 @@ pub(crate) fn put(context: &mut [u64; 6], x: Variable, states: u64)
     context[x.0 as usize] = states;
 }
 
-// The kind of the node that binds variable x.
-fn binder_kind(rule: &[u8], x: Variable) -> u8
-    ensures { λ r. ⌜ r ≡ binderKind (now (rule .entry)) (x .0) ⌝ }
+// The same set for each variable that a fixed point of the kind binds from a node on.
+pub(crate) fn restart(rule: &[u8], context: &mut [u64; 6], first: Node, kind: u8, states: u64)
+    requires { ⌜ Restartable (now rule) (first .0) kind ⌝ }
+    ensures { λ _. ⌜ Restarted (now (rule .entry)) (first .0) (nodeCount (now (rule .entry))) kind states (now (context .entry)) (now (context .exit)) ⌝ }
 {
-    let fields = node(rule, binder_node(rule, x));
-    fields.kind
-}
-
-// The same set for each variable from first on that a fixed point of the kind binds.
-pub(crate) fn restart(rule: &[u8], context: &mut [u64; 6], first: Variable, kind: u8, states: u64)
-    requires { ⌜ first .0 ≤ 6 ⌝ }
-    ensures { λ _. ⌜ Restarted (now (rule .entry)) (first .0) 6 kind states (now (context .entry)) (now (context .exit)) ⌝ }
-{
-    let mut k: u8 = first.0;
-    while k < 6 {
-        if binder_kind(rule, Variable(k)) == kind {
-            put(context, Variable(k), states);
-            k += 1;
+    let count = node_count(rule);
+    let mut n: u8 = first.0;
+    while n < count {
+        let fields = node(rule, Node(n));
+        if fields.kind == kind {
+            put(context, Variable(fields.x), states);
+            n += 1;
             continue;
         }
-        k += 1;
+        n += 1;
     }
 }

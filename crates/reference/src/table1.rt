@@ -118,25 +118,25 @@ pub(crate) fn evaluate(sheet: &[u8], masks: &[u32; 256], n: Node, context: &mut 
         6 => set_of(context, Variable(x)),
         // least: its image is added until nothing is new.
         7 => loop {
+            let image = evaluate(sheet, masks, Node(y), context);
             let states = set_of(context, Variable(x));
-            let next = states | evaluate(sheet, masks, Node(y), context);
+            let next = states | image;
             if next == states {
                 return states;
             }
             put(context, Variable(x), next);
-            let later = x + 1;
-            restart(rule, context, Variable(later), 8, full);
+            restart(rule, context, Node(y), 8, full);
         },
         // greatest: what its image lacks is taken away until nothing is.
         8 => loop {
+            let image = evaluate(sheet, masks, Node(y), context);
             let states = set_of(context, Variable(x));
-            let next = states & evaluate(sheet, masks, Node(y), context);
+            let next = states & image;
             if next == states {
                 return states;
             }
             put(context, Variable(x), next);
-            let later = x + 1;
-            restart(rule, context, Variable(later), 7, 0);
+            restart(rule, context, Node(y), 7, 0);
         },
         _ => 0,
     }

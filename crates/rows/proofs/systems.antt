@@ -3,3 +3,4 @@ pub mod Fuel
 pub mod Changed
 pub mod Needs
 pub mod Members
+pub mod NeededCells

@@ -88,10 +88,3 @@ module _ {C : Type 0} (position : C → ℕ) (size : ℕ) (cellAt : ℕ → C) w
       let r : C → Row C = changed position rows t in
       let l : List C = need r fuel c in
       out (value r fuel c) (count size (fills position t l)) (filling (value r fuel) l t)
-
-module _ {C : Type 0} (position : C → ℕ) (rows : C → Row C) (fuel : ℕ) where
-  -- "Needed for some queries is each cell needed for (0, 0, s), s the state of at least one of them; need and solution are here by the rows
-  -- as written"
-  unfoldable pub neededFor : List C → ℕ → Bool
-  neededFor [] i = false
-  neededFor (c ∷ cs) i = among position (need rows fuel c) i || neededFor cs i

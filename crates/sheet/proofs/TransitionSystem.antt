@@ -6,8 +6,7 @@ use mathlib.Core.Logic.{_⊎_, inl, inr}
 use native.Mathlib.Omega.{arith}
 use native.Mathlib.Decide.{decLt}
 use Rattle.sheet.specs.Plan.{stateCount, actionCount, transitionCount, origin, target}
-use Rattle.sheet.specs.WellFormed.{WellFormedPlan}
-use Rattle.sheet.specs.TransitionSystem.{LabelledTransition, TransitionsInRange, transitionOf, transitionsFrom, planOf}
+use Rattle.sheet.specs.TransitionSystem.{LabelledTransition, transitionOf, transitionsFrom, planOf, PlanInRange}
 
 -- transition t stands in the body, at one of the numbers from first up to end
 pub record Stands (p : List ℕ) (first end : ℕ) (t : LabelledTransition) : Type 0 where
@@ -46,9 +45,9 @@ module _ (p : List ℕ) where
   pub at-member : (i : ℕ) → i < transitionCount p → List·Memᴰ (transitionOf p i) (planOf p .transitions)
   at-member i l = stands-member (transitionCount p) 0 i (omega arith) (omega arith)
 
-  pub plan-in-range : WellFormedPlan p → TransitionsInRange (planOf p)
-  plan-in-range kept = record {
-    origin-below = λ t m. let s = member-at t m in subst (λ (x : LabelledTransition). x .origin < stateCount p) (sym (s .is)) (kept .origin-below (s .at) (s .before-end));
-    action-below = λ t m. let s = member-at t m in subst (λ (x : LabelledTransition). x .action < actionCount p) (sym (s .is)) (kept .label-below (s .at) (s .before-end));
-    target-below = λ t m. let s = member-at t m in subst (λ (x : LabelledTransition). x .target < stateCount p) (sym (s .is)) (kept .target-below (s .at) (s .before-end));
-  }
+pub plan-in-range : PlanInRange
+plan-in-range p kept = record {
+  origin-below = λ t m. let s = member-at p t m in subst (λ (x : LabelledTransition). x .origin < stateCount p) (sym (s .is)) (kept .origin-below (s .at) (s .before-end));
+  action-below = λ t m. let s = member-at p t m in subst (λ (x : LabelledTransition). x .action < actionCount p) (sym (s .is)) (kept .label-below (s .at) (s .before-end));
+  target-below = λ t m. let s = member-at p t m in subst (λ (x : LabelledTransition). x .target < stateCount p) (sym (s .is)) (kept .target-below (s .at) (s .before-end));
+}

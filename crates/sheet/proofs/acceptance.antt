@@ -2,5 +2,8 @@ pub mod Plan
 pub mod Actions
 pub mod Rule
 pub mod Sheet
+pub mod Calls
 pub mod Parts
 pub mod Numbers
+pub mod Answers
+pub mod Order

@@ -1,3 +1,4 @@
 pub mod Lowest
 pub mod Seeking
 pub mod Checks
+pub mod Bools

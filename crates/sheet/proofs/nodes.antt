@@ -1,5 +1,8 @@
-pub mod Shapes
-pub mod Subtrees
+pub mod Binders
 pub mod Children
 pub mod Extents
-pub mod Binders
+pub mod Shapes
+pub mod Subtrees
+pub mod Unfolding
+pub mod Below
+pub mod Faults

@@ -5,4 +5,6 @@ pub mod BodyChecks
 pub mod Nodes
 pub mod Subtrees
 pub mod Sheet
+pub mod Taken
+pub mod Readers
 pub mod Writing

@@ -147,12 +147,3 @@ bindingFaulty r n = bindingWrong r n (shapeOf (nodeKind r n))
 -- the place of refusal 10, "the lowest faulty .. node"; N where there is none
 abbrev pub lowestBinding : List ℕ → ℕ
 lowestBinding r = lowest (bindingFaulty r) (nodeCount r)
-
--- how many of the nodes 0 to b - 1 are binders that node n stands below
-unfoldable pub aboveAmong : List ℕ → ℕ → ℕ → ℕ
-aboveAmong r n zero = 0
-aboveAmong r n (suc b) = aboveAmong r n b + oneIf (isBinder r b && below r b n)
-
--- how many binders stand above node n
-abbrev pub bindersAbove : List ℕ → ℕ → ℕ
-bindersAbove r n = aboveAmong r n n

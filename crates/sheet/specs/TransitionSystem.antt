@@ -3,6 +3,7 @@
 use Prim.Native.Nat.{ℕ, zero, suc, _<_}
 use mathlib.Core.List.{List, [], _∷_, List·Memᴰ}
 use Rattle.sheet.specs.Plan.{stateCount, actionCount, transitionCount, origin, label, target}
+use Rattle.sheet.specs.WellFormed.{WellFormedPlan}
 
 -- "from, action, to"
 pub record LabelledTransition : Type 0 where
@@ -36,3 +37,7 @@ transitionsFrom p (suc count) i = transitionOf p i ∷ transitionsFrom p count (
 -- the plan of a plan body
 abbrev pub planOf : List ℕ → Plan
 planOf p = record { states = stateCount p; actions = actionCount p; transitions = transitionsFrom p (transitionCount p) 0 }
+
+-- The transitions of a plan body that keeps its rules are in range. Shown by plan-in-range of proofs/TransitionSystem.antt.
+abbrev pub PlanInRange : Type 0
+PlanInRange = (p : List ℕ) → WellFormedPlan p → TransitionsInRange (planOf p)

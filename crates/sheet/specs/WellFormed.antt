@@ -1,5 +1,5 @@
 -- The rules of a sheet, each stated once, with no order of checking: what document 01's "The sheet" asks, with kind 6 of document 02 (a).
--- That a sheet is accepted exactly when it keeps them is `accepted-iff` of proofs/acceptance/Sheet.antt.
+-- That a sheet is accepted exactly when it keeps them is AcceptedIff of specs/Acceptance.antt.
 use Prim.Native.Nat.{ℕ, suc, _+_, _*_, _<_, _≤_}
 use mathlib.Core.Path.{_≡_}
 use mathlib.Core.Bool.{true}

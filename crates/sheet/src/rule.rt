@@ -13,7 +13,7 @@ ghost use mathlib.Core.Path.{_≡_};
 ghost use mathlib.Core.Bool.{_&&_};
 ghost use Prim.Native.Nat.{_+_, _<_, _≤_};
 ghost use lib.Dec.{eqb, ltb};
-ghost use Rattle.sheet.specs.Rule.{nodeCount, binderCount, bindersAbove, ruleSized, nodeKind, nodeX, nodeY, childIs, syntaxFault, isBinder, bindersBefore, binderNode, subtreeEnd, below, bindingFaulty, lowestBinding};
+ghost use Rattle.sheet.specs.Rule.{nodeCount, binderCount, ruleSized, nodeKind, nodeX, nodeY, childIs, syntaxFault, isBinder, bindersBefore, binderNode, subtreeEnd, below, bindingFaulty, lowestBinding};
 ghost use Rattle.sheet.specs.internal.Counting.{BindersCounted};
 ghost use Rattle.sheet.specs.internal.Subtrees.{NodeOf, Ended};
 ghost use Rattle.sheet.specs.Fields.{fieldsAt};
@@ -179,14 +179,32 @@ fn binders_before(r: &[u8], n: usize) -> usize
     binders
 }
 
-// Whether node n binds variable k; binders is the number of binders before it.
-fn is_binder_of(r: &[u8], n: Node, binders: usize, k: Variable) -> bool
-    ensures { λ b. ⌜ b ≡ (isBinder (now (r .entry)) (n .0) && eqb binders (k .0)) ⌝ }
+// Whether node n is the binder numbered k; binders is the number of binders before it.
+fn is_binder_of(r: &[u8], n: Node, binders: usize, k: usize) -> bool
+    ensures { λ b. ⌜ b ≡ (isBinder (now (r .entry)) (n .0) && eqb binders k) ⌝ }
 {
     if is_binder(r, n) {
-        return binders == k.0 as usize;
+        return binders == k;
     }
     false
+}
+
+// The node of the binder numbered k, or the number of nodes where there is none. Plain numbers: a rule that is not checked yet may ask for the binder
+// of a variable that it has not.
+fn binder_place(r: &[u8], k: usize) -> u8
+    ensures { λ b. ⌜ b ≡ binderNode (now (r .entry)) k ⌝ }
+{
+    let count = narrow_at(r, 0);
+    let mut binders = 0;
+    let mut n = 0;
+    while n < count {
+        if is_binder_of(r, Node(n), binders, k) {
+            return n;
+        }
+        binders = binders_with(r, Node(n), binders);
+        n += 1;
+    }
+    n
 }
 
 // The place just after node n's subtree, where its last child's subtree ends: it may be no node, and on bytes that are no rule the way to it may
@@ -217,6 +235,17 @@ fn subtree_end(r: &[u8], n: Node) -> usize
     at
 }
 
+// Whether node n stands below the binder numbered k.
+fn below_binder(r: &[u8], k: usize, n: Node) -> bool
+    ensures { λ b. ⌜ b ≡ below (now (r .entry)) (binderNode (now (r .entry)) k) (n .0) ⌝ }
+{
+    let binder = binder_place(r, k);
+    if binder < n.0 {
+        return (n.0 as usize) < subtree_end(r, Node(binder));
+    }
+    false
+}
+
 // Whether the variable or binder node n breaks the rules of binding; binders is the number of binders before it.
 fn binding_faulty(r: &[u8], n: Node, binders: usize) -> bool
     requires { ⌜ binders ≡ bindersBefore (now r) (n .0) ⌝ }
@@ -228,7 +257,7 @@ fn binding_faulty(r: &[u8], n: Node, binders: usize) -> bool
     }
     let x = x_at(r, n);
     if k == 6 {
-        return !is_below(r, binder_node(r, Variable(x as u8)), n);
+        return !below_binder(r, x, n);
     }
     if 8 < k {
         return false;
@@ -318,57 +347,10 @@ pub fn binder_count(rule: &[u8]) -> u8
     binders_before(rule, byte_at(rule, 0)) as u8
 }
 
-// The node that binds a variable, or the number of nodes where none does.
-pub fn binder_node(rule: &[u8], k: Variable) -> Node
-    ensures { λ r. ⌜ r .0 ≡ binderNode (now (rule .entry)) (k .0) ⌝ }
+// Whether the node that binds a variable stands before a node.
+pub fn bound_before(rule: &[u8], k: Variable, n: Node) -> bool
+    ensures { λ b. ⌜ b ≡ ltb (binderNode (now (rule .entry)) (k .0)) (n .0) ⌝ }
 {
-    let count = byte_at(rule, 0);
-    let mut binders = 0;
-    let mut n = 0;
-    while n < count {
-        if is_binder_of(rule, Node(n as u8), binders, k) {
-            return Node(n as u8);
-        }
-        binders = binders_with(rule, Node(n as u8), binders);
-        n += 1;
-    }
-    Node(n as u8)
-}
-
-// Whether node n stands below node b.
-pub fn is_below(rule: &[u8], b: Node, n: Node) -> bool
-    ensures { λ r. ⌜ r ≡ below (now (rule .entry)) (b .0) (n .0) ⌝ }
-{
-    if b.0 < n.0 {
-        return (n.0 as usize) < subtree_end(rule, b);
-    }
-    false
-}
-
-// Whether node b is a binder that node n stands below.
-fn binder_above(r: &[u8], b: Node, n: Node) -> bool
-    ensures { λ d. ⌜ d ≡ (isBinder (now (r .entry)) (b .0) && below (now (r .entry)) (b .0) (n .0)) ⌝ }
-{
-    if is_binder(r, b) {
-        return is_below(r, b, n);
-    }
-    false
-}
-
-// How many binders stand above node n.
-pub fn binders_above(rule: &[u8], n: Node) -> u8
-    ensures { λ r. ⌜ r ≡ bindersAbove (now (rule .entry)) (n .0) ⌝ }
-{
-    let node = n.0 as usize;
-    let mut above: u8 = 0;
-    let mut b = 0;
-    while b < node {
-        if binder_above(rule, Node(b as u8), n) {
-            above += 1;
-            b += 1;
-            continue;
-        }
-        b += 1;
-    }
-    above
+    let binder = binder_place(rule, k.0 as usize);
+    binder < n.0
 }

@@ -9,7 +9,8 @@ ghost use Prim.Native.Nat.{_+_, _≤_, _<_};
 ghost use mathlib.Core.List.{_++_};
 ghost use lib.ListN.{length, drop};
 ghost use lib.Seq.{paste};
-ghost use Rattle.sheet.specs.Writing.{head, sheetOf, sheetLength, writtenOf, reportedWrite, writeReportOf, outputAfter};
+ghost use Rattle.sheet.specs.Writing.{head, sheetOf, sheetLength};
+ghost use Rattle.sheet.specs.RunningCalls.{Writes};
 ghost use Rattle.sheet.specs.internal.Room.{Room};
 
 // The first 17 bytes of a sheet whose bodies have these lengths.
@@ -62,9 +63,7 @@ fn put_sheet(p: &[u8], a: &[u8], r: &[u8], out: &mut [u8])
 
 // The sheet of three bodies, at the front of out, and its length; or the refusal, with out unchanged.
 pub fn write(plan: &[u8], actions: &[u8], rule: &[u8], out: &mut [u8]) -> Written
-    ensures { λ r. ⌜ r ≡ writtenOf (now (plan .entry)) (now (actions .entry)) (now (rule .entry)) (length (now (out .entry))) ⌝ }
-    ensures { λ r. ⌜ reportedWrite r ≡ writeReportOf (now (plan .entry)) (now (actions .entry)) (now (rule .entry)) (length (now (out .entry))) ⌝ }
-    ensures { λ _. ⌜ now (out .exit) ≡ outputAfter (now (plan .entry)) (now (actions .entry)) (now (rule .entry)) (now (out .entry)) ⌝ }
+    ensures { λ r. ⌜ Writes (now (plan .entry)) (now (actions .entry)) (now (rule .entry)) (now (out .entry)) r (now (out .exit)) ⌝ }
 {
     let checked = check_bodies(plan, actions, rule);
     match checked {

@@ -4,15 +4,15 @@ ghost use Prim.Native.Nat.{_≤_};
 ghost use lib.ListN.{length};
 
 // Room for a blob of any length that 16 bits allow.
-pub type Buffer = [u8; 65536];
+pub(crate) type Buffer = [u8; 65536];
 
-pub enum Byte {
+pub(crate) enum Byte {
     Got(u8),
     Ended,
 }
 
 // A 16-bit number, or a blob by its length.
-pub enum Number {
+pub(crate) enum Number {
     Got(u16),
     Ended,
 }
@@ -21,7 +21,7 @@ fn number_of(low: u8, high: u8) -> u16 {
     low as u16 + 256 * (high as u16)
 }
 
-pub fn read_byte() -> Byte {
+pub(crate) fn read_byte() -> Byte {
     let mut one = [0u8; 1];
     let n = io::read_full(STDIN_FILENO, &mut one);
     if n < 1 {
@@ -30,7 +30,7 @@ pub fn read_byte() -> Byte {
     Byte::Got(one[0])
 }
 
-pub fn read_number() -> Number {
+pub(crate) fn read_number() -> Number {
     let mut two = [0u8; 2];
     let n = io::read_full(STDIN_FILENO, &mut two);
     if n < 2 {
@@ -46,7 +46,7 @@ fn read_start(buf: &mut [u8], n: usize) -> usize
 }
 
 // n bytes, put at the start of buf.
-pub fn read_bytes(buf: &mut Buffer, n: u16) -> Number {
+fn read_bytes(buf: &mut Buffer, n: u16) -> Number {
     let got = read_start(buf, n as usize);
     if got < n as usize {
         return Number::Ended;
@@ -55,7 +55,7 @@ pub fn read_bytes(buf: &mut Buffer, n: u16) -> Number {
 }
 
 // A blob: its length, and its bytes at the start of buf.
-pub fn read_blob(buf: &mut Buffer) -> Number {
+pub(crate) fn read_blob(buf: &mut Buffer) -> Number {
     let length = read_number();
     match length {
         Number::Got(n) => read_bytes(buf, n),
@@ -64,14 +64,14 @@ pub fn read_blob(buf: &mut Buffer) -> Number {
 }
 
 // The first n bytes of buf.
-pub fn prefix(buf: &Buffer, n: u16) -> &[u8] {
+pub(crate) fn prefix(buf: &Buffer, n: u16) -> &[u8] {
     let k = n as usize;
     let whole = &buf[..];
     &whole[0..k]
 }
 
 // Sets the first n bytes of buf to b.
-pub fn fill(buf: &mut Buffer, n: u16, b: u8) {
+pub(crate) fn fill(buf: &mut Buffer, n: u16, b: u8) {
     let k = n as usize;
     let mut i = 0;
     while i < k {

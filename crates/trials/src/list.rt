@@ -46,7 +46,7 @@ fn list_on(sheet: &[u8], states: &[u8], buf: &mut Buffer, n: u16) {
     list_start(sheet, states, buf, n as usize);
 }
 
-pub fn answer(sheet: &mut Buffer, states: &mut Buffer, table: &mut Buffer) -> bool {
+pub(crate) fn answer(sheet: &mut Buffer, states: &mut Buffer, table: &mut Buffer) -> bool {
     let Number::Got(s) = input::read_blob(sheet) else {
         return false;
     };

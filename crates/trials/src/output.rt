@@ -4,18 +4,18 @@ use sheet::Refusal;
 ghost use Prim.Native.Nat.{_+_, _<_, _≤_};
 ghost use lib.ListN.{length};
 
-pub fn text(s: &[u8]) {
+pub(crate) fn text(s: &[u8]) {
     io::write_all(STDOUT_FILENO, s);
 }
 
 // A space and a number.
-pub fn number(n: u64) {
+pub(crate) fn number(n: u64) {
     text(b" ");
     io::print_decimal(STDOUT_FILENO, n);
 }
 
 // A space and a verdict.
-pub fn truth(b: bool) {
+pub(crate) fn truth(b: bool) {
     if b {
         text(b" true");
     } else {
@@ -23,16 +23,16 @@ pub fn truth(b: bool) {
     }
 }
 
-pub fn end_line() {
+pub(crate) fn end_line() {
     text(b"\n");
 }
 
 // The number and the place of an accepted call.
-pub fn accepted() {
+pub(crate) fn accepted() {
     text(b" 0 0");
 }
 
-pub fn refused(r: Refusal) {
+pub(crate) fn refused(r: Refusal) {
     number(r.number() as u64);
     number(r.place() as u64);
 }
@@ -97,7 +97,7 @@ fn hex_chunk(s: &[u8], from: usize) -> usize
 }
 
 // A space and the bytes of s, two digits each.
-pub fn hex(s: &[u8]) {
+pub(crate) fn hex(s: &[u8]) {
     text(b" ");
     let mut from = 0;
     while from < s.len() {

@@ -10,7 +10,7 @@ ghost use Prim.Native.Nat.{_≤_};
 ghost use lib.ListN.{length};
 
 // Asks for the verdict at a state and writes the line of the answer.
-pub fn query(sheet: &[u8], state: State, table: &mut [u8]) {
+pub(crate) fn query(sheet: &[u8], state: State, table: &mut [u8]) {
     output::text(b"query");
     let answer = judge::querying::query(sheet, state, table);
     match answer {
@@ -28,7 +28,7 @@ pub fn query(sheet: &[u8], state: State, table: &mut [u8]) {
     output::end_line();
 }
 
-pub fn write_table(table: &[u8]) {
+pub(crate) fn write_table(table: &[u8]) {
     output::text(b"table");
     output::hex(table);
     output::end_line();
@@ -50,7 +50,7 @@ fn query_on(sheet: &[u8], state: State, buf: &mut Buffer, n: u16) {
     query_start(sheet, state, buf, n as usize);
 }
 
-pub fn answer(sheet: &mut Buffer, table: &mut Buffer) -> bool {
+pub(crate) fn answer(sheet: &mut Buffer, table: &mut Buffer) -> bool {
     let Number::Got(s) = input::read_blob(sheet) else {
         return false;
     };

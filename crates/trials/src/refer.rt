@@ -21,7 +21,7 @@ fn refer(sheet: &[u8]) {
     output::end_line();
 }
 
-pub fn answer(sheet: &mut Buffer) -> bool {
+pub(crate) fn answer(sheet: &mut Buffer) -> bool {
     let Number::Got(n) = input::read_blob(sheet) else {
         return false;
     };

@@ -42,7 +42,7 @@ fn write_to(plan: &[u8], actions: &[u8], rule: &[u8], buf: &mut Buffer, n: u16) 
     write_start(plan, actions, rule, buf, n as usize);
 }
 
-pub fn answer(plan: &mut Buffer, actions: &mut Buffer, rule: &mut Buffer) -> bool {
+pub(crate) fn answer(plan: &mut Buffer, actions: &mut Buffer, rule: &mut Buffer) -> bool {
     let mut out = io::large_buffer();
     let Number::Got(p) = input::read_blob(plan) else {
         return false;

@@ -1,13 +1,13 @@
 -- A change of kinds by any f: the kind of each node is mapped, every other byte of the rule and of the sheet stays, and the bodies stay where they are.
-use Prim.Native.Nat.{ℕ, zero, suc, _+_, _*_, _/_, _%_, _<_, _≤_}
+use Prim.Native.Nat.{ℕ, zero, suc, _+_, _-_, _*_, _/_, _%_, _<_, _≤_}
 use mathlib.Core.Path.{_≡_, refl, sym, ap, ap₂, subst, _∙_}
 use mathlib.Core.Bool.{Bool}
 use mathlib.Core.List.{List, [], _∷_, _++_}
 use native.Mathlib.Omega.{arith}
-use native.Mathlib.Decide.{decLt}
+use native.Mathlib.Decide.{ℕ-discrete, decLt}
 use native.Mathlib.Nat.{le-of-suc-le-suc}
 use lib.ListN.{length, take, drop, length-append, length-drop, take-append-drop, List·getD-append}
-use lib.Seq.{length-take-le, take-all, drop-at, take-append-le, drop-append-le}
+use lib.Seq.{length-take-le, take-all, drop-at, take-append-le, drop-append-le, getD-append-add, getD-drop}
 use borrow.Author.Tests.{eq-eqb, ne-eqb}
 use Rattle.sheet.specs.Bytes.{byte, word, slice, pick}
 use Rattle.sheet.specs.Contents.{headLength, planLength, actionsLength, ruleLength, actionsOffset, ruleOffset, planBody, actionsBody, ruleBody}
@@ -61,6 +61,20 @@ module _ (f : ℕ → ℕ → ℕ) where
         byte-inside 0 r (1 + 3 * n) (1 + 3 * n) (omega arith) l ∙
         (ap (λ (t : Bool). pick t (f ((1 + 3 * n) / 3) (nodeKind r n)) (nodeKind r n)) (eq-eqb ((1 + 3 * n) % 3) 1 p) ∙ ap (λ (m : ℕ). f m (nodeKind r n)) q)
 
+    -- a byte that is no kind, or a kind that f keeps
+    pub mapped-rule-same : (j : ℕ) → ((n : ℕ) → j ≡ 1 + 3 * n → j < length r → f n (byte r j) ≡ byte r j) → byte (mapRuleKinds f r) j ≡ byte r j
+    mapped-rule-same j keeps =
+        elim (ℕ-discrete (j % 3) 1) [
+          | no h ↦ mapped-other j h
+          | yes h ↦
+              elim (decLt j (length r)) [
+                | no l ↦ byte-past 0 r j (omega arith)
+                | yes l ↦
+                    let p : j ≡ 1 + 3 * (j / 3) = omega arith in
+                    ap (byte (mapRuleKinds f r)) p ∙ (mapped-kind (j / 3) (omega arith) ∙ (ap (λ (i : ℕ). f (j / 3) (byte r i)) (sym p) ∙ keeps (j / 3) p l))
+              ]
+        ]
+
     -- What f keeps of every kind, the change keeps at every node: past its end a body reads 0 before and after.
     pub mapped-kinds : (Q : ℕ → ℕ → Type 0) → ((k : ℕ) → Q k k) → ((n k : ℕ) → Q k (f n k)) → (n : ℕ) → Q (nodeKind r n) (nodeKind (mapRuleKinds f r) n)
     mapped-kinds Q same keeps n =
@@ -96,6 +110,37 @@ module _ (f : ℕ → ℕ → ℕ) (s : List ℕ) (ends : length s ≡ ruleOffse
   mapped-byte i l =
       List·getD-append head (mapRuleKinds f rest) 0 i (omega (arith, head-length)) ∙
       (sym (List·getD-append head rest 0 i (omega (arith, head-length))) ∙ ap (λ (l : List ℕ). byte l i) (take-append-drop (ruleOffset s) s))
+
+  -- the bytes of the rule body
+  in-rest : (j : ℕ) → byte (mapSheetKinds f s) (ruleOffset s + j) ≡ byte (mapRuleKinds f rest) j
+  unfolding mapSheetKinds head rest
+  in-rest j = ap (λ (n : ℕ). byte (mapSheetKinds f s) (n + j)) (sym head-length) ∙ getD-append-add head (mapRuleKinds f rest) j 0
+
+  was-in-rest : (j : ℕ) → byte s (ruleOffset s + j) ≡ byte rest j
+  unfolding rest
+  was-in-rest j = sym (getD-drop (ruleOffset s) s j 0)
+
+  pub mapped-kind-byte : (n : ℕ) → ruleOffset s + (1 + 3 * n) < length s
+      → byte (mapSheetKinds f s) (ruleOffset s + (1 + 3 * n)) ≡ f n (byte s (ruleOffset s + (1 + 3 * n)))
+  unfolding rest
+  mapped-kind-byte n l =
+      in-rest (1 + 3 * n) ∙ (mapped-kind f rest n (omega (arith, length-drop (ruleOffset s) s)) ∙ ap (f n) (sym (was-in-rest (1 + 3 * n))))
+
+  -- a byte that is no kind, or a kind that f keeps
+  pub mapped-same : (i : ℕ) → ((n : ℕ) → i ≡ ruleOffset s + (1 + 3 * n) → i < length s → f n (byte s i) ≡ byte s i) → byte (mapSheetKinds f s) i ≡ byte s i
+  unfolding rest
+  mapped-same i keeps =
+      elim (decLt i (ruleOffset s)) [
+        | yes l ↦ mapped-byte i l
+        | no h ↦
+            let j : ℕ = i - ruleOffset s in
+            let q : i ≡ ruleOffset s + j = omega arith in
+            let was : byte s i ≡ byte rest j = ap (byte s) q ∙ was-in-rest j in
+            ap (byte (mapSheetKinds f s)) q ∙
+            (in-rest j ∙
+            (mapped-rule-same f rest j
+            (λ n p l. ap (f n) (sym was) ∙ (keeps n (omega arith) (omega (arith, length-drop (ruleOffset s) s)) ∙ was)) ∙ sym was))
+      ]
 
   pub mapped-slice : (offset size : ℕ) → offset + size ≤ ruleOffset s → slice (mapSheetKinds f s) offset size ≡ slice s offset size
   unfolding mapSheetKinds head rest

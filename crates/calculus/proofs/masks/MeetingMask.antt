@@ -17,7 +17,7 @@ use Rattle.sheet.specs.declared.Fields.{Fields}
 use Rattle.calculus.specs.Formulas.{ActionFormula}
 use Rattle.calculus.specs.Meaning.{meets}
 use Rattle.calculus.specs.Decode.{operand, EntrySort, unknownEntry, entrySort, entryFormula, actionFormula}
-use Rattle.calculus.specs.MeetingMask.{bit, maskUpTo, meetingMask}
+use Rattle.calculus.specs.MeetingMask.{bit, maskUpTo, meetingMask, MeetingBits}
 use Rattle.calculus.proofs.decoding.Entries.{entry-of-kind}
 use Rattle.calculus.proofs.masks.Bits.{bit-high, bit-here, bit-low}
 
@@ -140,3 +140,6 @@ module _ (A : ℕ) (a : List ℕ) (action : ℕ) where
   pub mask-whole : (m e count : ℕ) → count ≡ min (entryCount a) 32 → e ≡ count → m ≡ maskUpTo e A a action → m ≡ meetingMask A a action
   unfolding meetingMask
   mask-whole m e count q p h = h ∙ ap (λ (n : ℕ). maskUpTo n A a action) (p ∙ q)
+
+pub meeting-bits : MeetingBits
+meeting-bits A a action e few l = meeting-bit A a action e few l

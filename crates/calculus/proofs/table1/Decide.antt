@@ -6,7 +6,7 @@ use mathlib.Core.Logic.{_↔_, ⊎-map}
 use Rattle.calculus.specs.Formulas.{Formula, falseFormula, trueFormula, disj, conj, some, every, var, least, greatest}
 use Rattle.sheet.specs.TransitionSystem.{Plan, TransitionsInRange}
 use Rattle.calculus.specs.Meaning.{Holds, bind}
-use Rattle.calculus.specs.Eval.{eval}
+use Rattle.calculus.specs.Eval.{eval, EvalMeaning}
 use Rattle.calculus.proofs.table1.Modal.{or-true, some-true, every-true}
 use Rattle.calculus.proofs.table1.Iterates.{least-closed, least-within, greatest-open, within-greatest}
 
@@ -41,3 +41,6 @@ module _ {P : Plan} (w : TransitionsInRange P) where
 
   pub decide : (φ : Formula) (ρ : ℕ → ℕ → Bool) (s : ℕ) → s < P .states → Holds P φ ρ s ↔ (eval P φ ρ s ≡ true)
   decide φ ρ s l = (holds-eval φ ρ s l, eval-holds φ ρ s l)
+
+pub eval-meaning : EvalMeaning
+eval-meaning P w φ ρ s l = (eval-holds w φ ρ s l, holds-eval w φ ρ s l)

@@ -7,13 +7,22 @@ use native.Mathlib.Decide.{decLt, ℕ-discrete}
 use native.Mathlib.Omega.{arith}
 use lib.Dec.{ltb}
 use borrow.Author.Tests.{lt-ltb, le-ltb, ltb-true}
-use Rattle.sheet.specs.Rule.{nodeCount, nodeX, isBinder, oneIf, bindersBefore, binderCount, binderNode, subtreeEnd, below, aboveAmong, bindersAbove}
+use Rattle.sheet.specs.Rule.{nodeCount, nodeX, isBinder, oneIf, bindersBefore, binderCount, binderNode, subtreeEnd, below}
 use Rattle.sheet.specs.WellFormed.{Subtree, Below, Binds, Bound, WellFormedRule}
 use Rattle.sheet.proofs.checks.Checks.{and-parts, all}
 use Rattle.sheet.proofs.nodes.Subtrees.{subtree-end, subtree-nests}
 use Rattle.sheet.proofs.nodes.Binders.{binders-next, binders-rise, binder-found, binder-node, binder-one}
 use Rattle.sheet.proofs.nodes.Children.{node-subtree}
 use Rattle.calculus.proofs.decoding.Variables.{Above}
+
+-- how many of the nodes 0 to b - 1 are binders that node n stands below
+unfoldable pub aboveAmong : List ℕ → ℕ → ℕ → ℕ
+aboveAmong r n zero = 0
+aboveAmong r n (suc b) = aboveAmong r n b + oneIf (isBinder r b && below r b n)
+
+-- how many binders stand above node n
+abbrev pub bindersAbove : List ℕ → ℕ → ℕ
+bindersAbove r n = aboveAmong r n n
 
 -- a binder is one of the B binders
 pub binder-counted : (r : List ℕ) (b k : ℕ) → Binds r b k → k < binderCount r

@@ -7,7 +7,7 @@ use native.Mathlib.Omega.{arith}
 use borrow.Author.Tests.{ltb-true}
 use Rattle.sheet.specs.Plan.{stateCount}
 use Rattle.sheet.specs.Actions.{entryCount}
-use Rattle.sheet.specs.Rule.{nodeCount, binderNode, bindersAbove}
+use Rattle.sheet.specs.Rule.{nodeCount, binderNode}
 use Rattle.sheet.specs.WellFormed.{Binds, WellFormedRule, WellFormedBodies}
 use Rattle.sheet.proofs.nodes.Binders.{binder-node}
 use Rattle.calculus.proofs.decoding.Variables.{Above}
@@ -16,7 +16,7 @@ use Rattle.judge.specs.Cells.{Cell, cell, opened, outer, rows, enough}
 use Rattle.rows.proofs.systems.Systems.{Falling}
 use Rattle.rows.proofs.systems.Fuel.{each-map}
 use Rattle.graph.proofs.looptest.Height.{height, height-falls, height-at-most}
-use Rattle.judge.proofs.cells.BindersAbove.{above-node, above-nested, above-inside, depth-few, depth-le, depth-lt}
+use Rattle.judge.proofs.cells.BindersAbove.{bindersAbove, above-node, above-nested, above-inside, depth-few, depth-le, depth-lt}
 use Rattle.judge.proofs.cells.ValidCells.{Marked, Valid, Entry, child, next, body, outward, valid-entries}
 
 -- twice the binders above the node and one more where no binder is open, twice the binders above binder k under mark k + 1

@@ -6,27 +6,29 @@ use mathlib.Core.Bool.{Bool, true, false, _&&_, true≢false}
 use mathlib.Core.List.{List, [], _∷_, map}
 use mathlib.Core.Logic.{_⊎_, inl, inr}
 use native.Mathlib.Omega.{arith}
-use lib.Dec.{eqb, ltb, leb}
+use lib.Dec.{eqb, ltb}
 use lib.ListN.{length}
-use borrow.Author.Tests.{le-ltb, le-leb}
+use borrow.Author.Tests.{le-ltb, le-leb, ltb-true}
 use Rattle.sheet.specs.Bytes.{pick}
 use Rattle.sheet.specs.Contents.{planBody, actionsBody, ruleBody}
 use Rattle.sheet.specs.Plan.{stateCount}
 use Rattle.sheet.specs.Refusals.{require, andThen}
 use Rattle.sheet.specs.Reading.{sheetCheck}
 use Rattle.sheet.specs.declared.Refusal.{Refusal}
-use Rattle.sheet.specs.declared.Refusal.the-variants.{NoSuchState, Loop, TableShort, TableByte}
+use Rattle.sheet.specs.declared.Refusal.the-variants.{NoSuchState, Loop}
 use Rattle.sheet.specs.declared.Check.{Check}
 use Rattle.sheet.specs.declared.Check.the-variants.{Passed, Failed}
-use Rattle.sheet.proofs.checks.Checks.{and-parts, none-found, then-passed, require-passed}
+use Rattle.sheet.proofs.checks.Checks.{and-parts, none-found}
+use Rattle.sheet.proofs.acceptance.Parts.{bodies-kept}
 use Rattle.rows.specs.Tables.{byteAt, Result, verdict, visits, table}
 use Rattle.judge.specs.Cells.{Cell, cell, rows, enough, positionOf, cellAt, cellBytes}
 use Rattle.graph.specs.LoopTest.{loopFree}
 use Rattle.judge.specs.Querying.{bytesRight, queryCheck, resultOf, answerQueried, queriedOf, leftBy, tableQueried, QueryReport, reportedQuery}
 use Rattle.judge.specs.declared.Queried.the-variants.{Refused}
-use Rattle.judge.specs.Demand3.{reports, tableAfter, Reported, SameAnswers, visitsOf, queriedCells}
+use Rattle.judge.specs.Lists.{reports, tableAfter, Reported, SameAnswers, visitsOf, judgedStates}
 use Rattle.rows.proofs.systems.Systems.{Each, queries, total, final, Solvable}
 use Rattle.rows.proofs.solver.Solved.{Right, query-right}
+use Rattle.judge.proofs.cells.ValidCells.{Valid, root-valid}
 
 -- whether a plan has a state, and no loop can be reached from it
 abbrev pub takes : List ℕ → ℕ → Bool
@@ -71,6 +73,12 @@ module _ (s : List ℕ) (accepted : sheetCheck s ≡ Passed) where
   abbrev statesOf : ℕ
   statesOf = stateCount (planBody s)
 
+  -- the cell of such a query
+  pub takes-valid : (state : ℕ) → Takes state → Valid (planBody s) (actionsBody s) (ruleBody s) (cell 0 0 state)
+  takes-valid state h =
+      let b = and-parts (ltb state statesOf) (loopFree (planBody s) state) h in
+      root-valid (bodies-kept s accepted .rule-kept) state (ltb-true state statesOf (b .0)) (b .1)
+
   -- a table that a query takes: long enough, and no byte over 2
   pub record Fine (u : List ℕ) : Type 0 where
     pub long : cellBytes s ≤ length u
@@ -80,12 +88,13 @@ module _ (s : List ℕ) (accepted : sheetCheck s ≡ Passed) where
   unfolding queryCheck bytesRight
   query-passes u fine state h =
       let b = and-parts (ltb state statesOf) (loopFree (planBody s) state) h in
-      then-passed (sheetCheck s) _ accepted
-      (then-passed (require (ltb state statesOf) NoSuchState) _ (require-passed (ltb state statesOf) NoSuchState (b .0))
-      (then-passed (require (loopFree (planBody s) state) Loop) _ (require-passed (loopFree (planBody s) state) Loop (b .1))
-      (then-passed (require (leb (cellBytes s) (length u)) TableShort) _ (require-passed (leb (cellBytes s) (length u)) TableShort (le-leb (cellBytes s) (length u) (fine .long)))
-      (require-passed (bytesRight (cellBytes s) u) TableByte
-      (none-found (λ i. ltb 2 (byteAt u i)) (cellBytes s) .1 (λ i l. le-ltb 2 (byteAt u i) (fine .small i l)))))))
+      rw (
+        accepted,
+        b .0,
+        b .1,
+        le-leb (cellBytes s) (length u) (fine .long),
+        none-found (λ i. ltb 2 (byteAt u i)) (cellBytes s) .1 (λ i l. le-ltb 2 (byteAt u i) (fine .small i l)),
+      )
 
   -- the refusal of a state that is not taken
   abbrev refusal : ℕ → Refusal
@@ -93,27 +102,26 @@ module _ (s : List ℕ) (accepted : sheetCheck s ≡ Passed) where
 
   pub query-fails : (u : List ℕ) (state : ℕ) → takes (planBody s) state ≡ false → queryCheck s state u ≡ Failed (refusal state)
   unfolding queryCheck
-  query-fails u state h = rw accepted (go (ltb state statesOf) (loopFree (planBody s) state) h)
+  query-fails u state h = rw accepted (go (ltb state statesOf) (loopFree (planBody s) state) h _)
     where
-      go : (b c : Bool) → (b && c) ≡ false
-          → andThen (require b NoSuchState) (andThen (require c Loop) (andThen (require (leb (cellBytes s) (length u)) TableShort) (require (bytesRight (cellBytes s) u) TableByte))) ≡ Failed (pick b Loop NoSuchState)
-      go true true h = absurd (true≢false h)
-      go true false h = refl
-      go false c h = refl
+      go : (b c : Bool) → (b && c) ≡ false → (next : Check) → andThen (require b NoSuchState) (andThen (require c Loop) next) ≡ Failed (pick b Loop NoSuchState)
+      go true true h next = absurd (true≢false h)
+      go true false h next = refl
+      go false c h next = refl
 
-  judged : (u : List ℕ) → Fine u → (state : ℕ) → Takes state
+  pub judged-report : (u : List ℕ) → Fine u → (state : ℕ) → Takes state
       → reportedQuery (queriedOf s state u) ≡ record { number = 0; place = 0; verdict = verdict (resultOf s state u); visits = visits (resultOf s state u) }
   unfolding queriedOf
-  judged u fine state h = ap (λ (c : Check). reportedQuery (answerQueried (resultOf s state u) c)) (query-passes u fine state h)
+  judged-report u fine state h = ap (λ (c : Check). reportedQuery (answerQueried (resultOf s state u) c)) (query-passes u fine state h)
 
-  judged-table : (u : List ℕ) → Fine u → (state : ℕ) → Takes state → tableQueried s state u ≡ table (resultOf s state u)
+  pub judged-table : (u : List ℕ) → Fine u → (state : ℕ) → Takes state → tableQueried s state u ≡ table (resultOf s state u)
   unfolding tableQueried
   judged-table u fine state h = ap (leftBy (resultOf s state u) u) (query-passes u fine state h)
 
   abbrev refusedReport : ℕ → QueryReport
   refusedReport state = record { number = refusalNumber (planBody s) state; place = 0; verdict = false; visits = 0 }
 
-  refused : (u : List ℕ) (state : ℕ) → takes (planBody s) state ≡ false → reportedQuery (queriedOf s state u) ≡ refusedReport state
+  pub refused : (u : List ℕ) (state : ℕ) → takes (planBody s) state ≡ false → reportedQuery (queriedOf s state u) ≡ refusedReport state
   unfolding queriedOf
   refused u state h = ap (λ (c : Check). reportedQuery (answerQueried (resultOf s state u) c)) (query-fails u state h) ∙ go (ltb state statesOf)
     where
@@ -121,7 +129,7 @@ module _ (s : List ℕ) (accepted : sheetCheck s ≡ Passed) where
       go true = refl
       go false = refl
 
-  refused-table : (u : List ℕ) (state : ℕ) → takes (planBody s) state ≡ false → tableQueried s state u ≡ u
+  pub refused-table : (u : List ℕ) (state : ℕ) → takes (planBody s) state ≡ false → tableQueried s state u ≡ u
   unfolding tableQueried
   refused-table u state h = ap (leftBy (resultOf s state u) u) (query-fails u state h)
 
@@ -129,16 +137,21 @@ module _ (s : List ℕ) (accepted : sheetCheck s ≡ Passed) where
   abbrev pub ask : List ℕ → List Cell → List Result
   ask u cs = queries (positionOf (ruleBody s)) (cellBytes s) (cellAt (ruleBody s)) (rows (planBody s) (actionsBody s) (ruleBody s)) enough u cs
 
-  pub record Run (states u : List ℕ) (cs : List Cell) : Type 0 where
-    pub ends : tableAfter s u states ≡ final u (ask u cs)
-    pub sum : visitsOf (reports s u states) ≡ total (ask u cs)
-    pub cells : queriedCells states (reports s u states) ≡ cs
-    pub answers : (v : Cell → Bool) → map verdict (ask u cs) ≡ map v cs → Reported (Answer (planBody s) v) states (reports s u states)
+  -- (0, 0, state) for each state of a list
+  abbrev pub starts : List ℕ → List Cell
+  starts l = map (cell 0 0) l
 
-  -- (0, 0, state) for the states that are taken
-  unfoldable pub takenCells : List ℕ → List Cell
-  takenCells [] = []
-  takenCells (state ∷ states) = pick (takes (planBody s) state) (cell 0 0 state ∷ takenCells states) (takenCells states)
+  -- the queries of a list of states, of which those of l are taken
+  pub record Run (states u l : List ℕ) : Type 0 where
+    pub ends : tableAfter s u states ≡ final u (ask u (starts l))
+    pub sum : visitsOf (reports s u states) ≡ total (ask u (starts l))
+    pub judged : judgedStates states (reports s u states) ≡ l
+    pub answers : (v : Cell → Bool) → map verdict (ask u (starts l)) ≡ map v (starts l) → Reported (Answer (planBody s) v) states (reports s u states)
+
+  -- the states that are taken
+  unfoldable pub takenStates : List ℕ → List ℕ
+  takenStates [] = []
+  takenStates (state ∷ states) = pick (takes (planBody s) state) (state ∷ takenStates states) (takenStates states)
 
   module _ {Valid : Cell → Type 0} {rank : Cell → ℕ} (solvable : Solvable (positionOf (ruleBody s)) (rows (planBody s) (actionsBody s) (ruleBody s)) (cellBytes s) (cellAt (ruleBody s)) Valid rank enough)
       (start : (state : ℕ) → Takes state → Valid (cell 0 0 state)) where
@@ -147,60 +160,61 @@ module _ (s : List ℕ) (accepted : sheetCheck s ≡ Passed) where
         let r : Right solvable u (table (resultOf s state u)) = query-right solvable u (cell 0 0 state) (fine .long) (start state h) in
         record { long = rw (r .long) (fine .long); small = λ i l. r .small i (fine .small i l) }
 
-    judged-run : (state : ℕ) (states u : List ℕ) (cs : List Cell) → Fine u → Takes state → Run states (table (resultOf s state u)) cs → Run (state ∷ states) u (cell 0 0 state ∷ cs)
-    unfolding reports tableAfter visitsOf queries total final queriedCells
-    judged-run state states u cs fine h r = record {
+    judged-run : (state : ℕ) (states u l : List ℕ) → Fine u → Takes state → Run states (table (resultOf s state u)) l → Run (state ∷ states) u (state ∷ l)
+    unfolding reports tableAfter visitsOf queries total final judgedStates
+    judged-run state states u l fine h r = record {
       ends = ap (λ (t : List ℕ). tableAfter s t states) (judged-table u fine state h) ∙ r .ends;
       sum =
-          ap₂ _+_ (ap (λ (q : QueryReport). q .visits) (judged u fine state h))
+          ap₂ _+_ (ap (λ (q : QueryReport). q .visits) (judged-report u fine state h))
           (ap (λ (t : List ℕ). visitsOf (reports s t states)) (judged-table u fine state h) ∙ r .sum);
-      cells =
-          ap (λ (q : QueryReport). queriedCells (state ∷ states) (q ∷ reports s (tableQueried s state u) states)) (judged u fine state h)
-          ∙ ap (λ (l : List Cell). cell 0 0 state ∷ l) (ap (λ (t : List ℕ). queriedCells states (reports s t states)) (judged-table u fine state h) ∙ r .cells);
+      judged =
+          ap (λ (q : QueryReport). judgedStates (state ∷ states) (q ∷ reports s (tableQueried s state u) states)) (judged-report u fine state h)
+          ∙ ap (λ (k : List ℕ). state ∷ k) (ap (λ (t : List ℕ). judgedStates states (reports s t states)) (judged-table u fine state h) ∙ r .judged);
       answers = λ v e.
           let here : verdict (resultOf s state u) ≡ v (cell 0 0 state) = cc in
-          let rest : map verdict (ask (table (resultOf s state u)) cs) ≡ map v cs = cc in (
-            subst (Answer (planBody s) v state) (sym (judged u fine state h)) (inl (h, refl, here)),
+          let rest : map verdict (ask (table (resultOf s state u)) (starts l)) ≡ map v (starts l) = cc in (
+            subst (Answer (planBody s) v state) (sym (judged-report u fine state h)) (inl (h, refl, here)),
             subst (λ (t : List ℕ). Reported (Answer (planBody s) v) states (reports s t states)) (sym (judged-table u fine state h)) (r .answers v rest),
           );
     }
 
-    refused-run : (state : ℕ) (states u : List ℕ) (cs : List Cell) → takes (planBody s) state ≡ false → Run states u cs → Run (state ∷ states) u cs
-    unfolding reports tableAfter visitsOf queriedCells
-    refused-run state states u cs h r = record {
+    refused-run : (state : ℕ) (states u l : List ℕ) → takes (planBody s) state ≡ false → Run states u l → Run (state ∷ states) u l
+    unfolding reports tableAfter visitsOf judgedStates
+    refused-run state states u l h r = record {
       ends = ap (λ (t : List ℕ). tableAfter s t states) (refused-table u state h) ∙ r .ends;
       sum =
           ap₂ _+_ (ap (λ (q : QueryReport). q .visits) (refused u state h)) (ap (λ (t : List ℕ). visitsOf (reports s t states)) (refused-table u state h))
           ∙ (omega (arith, r .sum));
-      cells =
-          ap (λ (q : QueryReport). queriedCells (state ∷ states) (q ∷ reports s (tableQueried s state u) states)) (refused u state h)
-          ∙ skip (ltb state statesOf) (queriedCells states (reports s (tableQueried s state u) states))
-          ∙ ap (λ (t : List ℕ). queriedCells states (reports s t states)) (refused-table u state h) ∙ r .cells;
+      judged =
+          ap (λ (q : QueryReport). judgedStates (state ∷ states) (q ∷ reports s (tableQueried s state u) states)) (refused u state h)
+          ∙ skip (ltb state statesOf) (judgedStates states (reports s (tableQueried s state u) states))
+          ∙ ap (λ (t : List ℕ). judgedStates states (reports s t states)) (refused-table u state h) ∙ r .judged;
       answers = λ v e. (
         subst (Answer (planBody s) v state) (sym (refused u state h)) (inr (h, refl, refl)),
         subst (λ (t : List ℕ). Reported (Answer (planBody s) v) states (reports s t states)) (sym (refused-table u state h)) (r .answers v e),
       );
     }
       where
-        skip : (b : Bool) (l : List Cell) → pick (eqb (pick b 12 11) 0) (cell 0 0 state ∷ l) l ≡ l
-        skip true l = refl
-        skip false l = refl
+        skip : (b : Bool) (k : List ℕ) → pick (eqb (pick b 12 11) 0) (state ∷ k) k ≡ k
+        skip true k = refl
+        skip false k = refl
 
-    pub run : (states u : List ℕ) → Fine u → Run states u (takenCells states)
-    unfolding reports tableAfter visitsOf queries total final queriedCells takenCells
-    run [] u fine = record { ends = refl; sum = refl; cells = refl; answers = λ v e. tt }
+    pub run : (states u : List ℕ) → Fine u → Run states u (takenStates states)
+    unfolding reports tableAfter visitsOf queries total final judgedStates takenStates
+    run [] u fine = record { ends = refl; sum = refl; judged = refl; answers = λ v e. tt }
     run (state ∷ states) u fine = go (takes (planBody s) state) refl (run states)
       where
-        go : (b : Bool) → takes (planBody s) state ≡ b → ((u : List ℕ) → Fine u → Run states u (takenCells states))
-            → Run (state ∷ states) u (pick b (cell 0 0 state ∷ takenCells states) (takenCells states))
-        go true e rest = judged-run state states u (takenCells states) fine e (rest (table (resultOf s state u)) (fine-after u fine state e))
-        go false e rest = refused-run state states u (takenCells states) e (rest u fine)
+        go : (b : Bool) → takes (planBody s) state ≡ b → ((u : List ℕ) → Fine u → Run states u (takenStates states))
+            → Run (state ∷ states) u (pick b (state ∷ takenStates states) (takenStates states))
+        go true e rest = judged-run state states u (takenStates states) fine e (rest (table (resultOf s state u)) (fine-after u fine state e))
+        go false e rest = refused-run state states u (takenStates states) e (rest u fine)
 
-    pub taken-valid : (states : List ℕ) → Each Valid (takenCells states)
-    unfolding takenCells
-    taken-valid [] = tt
-    taken-valid (state ∷ states) = go (takes (planBody s) state) refl (taken-valid states)
-      where
-        go : (b : Bool) → takes (planBody s) state ≡ b → Each Valid (takenCells states) → Each Valid (pick b (cell 0 0 state ∷ takenCells states) (takenCells states))
-        go true e rest = (start state e, rest)
-        go false e rest = rest
+  -- each state that is taken is one
+  pub taken-each : (states : List ℕ) → Each Takes (takenStates states)
+  unfolding takenStates
+  taken-each [] = tt
+  taken-each (state ∷ states) = go (takes (planBody s) state) refl (taken-each states)
+    where
+      go : (b : Bool) → takes (planBody s) state ≡ b → Each Takes (takenStates states) → Each Takes (pick b (state ∷ takenStates states) (takenStates states))
+      go true e rest = (e, rest)
+      go false e rest = rest

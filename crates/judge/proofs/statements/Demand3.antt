@@ -2,7 +2,7 @@
 use Prim.Native.Nat.{ℕ, _<_, _≤_}
 use mathlib.Core.Path.{_≡_, refl, sym, ap, subst, subst₃, _∙_}
 use mathlib.Core.Bool.{Bool, true, false, _&&_}
-use mathlib.Core.List.{List}
+use mathlib.Core.List.{List, [], _∷_}
 use mathlib.Core.Logic.{_↔_, _≢_, inl, inr, Iff·trans, Iff·symm}
 use native.Mathlib.Omega.{arith}
 use lib.ListN.{length}
@@ -15,7 +15,6 @@ use Rattle.sheet.specs.WellFormed.{WellFormedBodies, WellFormedSheet}
 use Rattle.sheet.specs.Reading.{sheetCheck}
 use Rattle.sheet.specs.declared.Check.the-variants.{Passed}
 use Rattle.sheet.proofs.acceptance.Sheet.{accepted-iff}
-use Rattle.sheet.proofs.checks.Checks.{and-parts}
 use Rattle.sheet.specs.TransitionSystem.{planOf}
 use Rattle.calculus.specs.Decode.{formula}
 use Rattle.calculus.specs.Meaning.{Holds}
@@ -25,28 +24,48 @@ use Rattle.calculus.specs.Exchange.{exchanged, exchangedRule}
 use Rattle.calculus.proofs.table1.Verdicts.{verdict-holds}
 use Rattle.calculus.proofs.exchange.Exchange.{exchanged-plan, exchanged-actions, exchanged-rule, exchanged-kept}
 use Rattle.rows.specs.Rows.{value}
-use Rattle.rows.specs.Tables.{byteAt, filled, count, neededFor}
+use Rattle.rows.specs.Tables.{byteAt, filled, byteOf, count}
 use Rattle.graph.specs.LoopTest.{settled, loopFree}
 use Rattle.graph.specs.Successors.{successors}
-use Rattle.judge.specs.Cells.{Cell, cell, rows, enough, positionOf, cellAt, cellBytes}
+use Rattle.judge.specs.Cells.{Cell, cell, rows, writtenRows, enough, positionOf, cellAt, cellBytes, InTable}
 use Rattle.judge.specs.Clearing.{tableCleared}
-use Rattle.judge.specs.Querying.{QueryReport}
-use Rattle.judge.specs.Demand3.{reports, tableAfter, Reported, visitsOf, queriedCells, RefusedState, SameUnderExchange, ListCorrect, Demand3}
-use Rattle.rows.proofs.systems.Systems.{Solvable}
+use Rattle.judge.specs.Querying.{QueryReport, queriedOf, tableQueried, reportedQuery}
+use Rattle.judge.specs.declared.Queried.{Queried}
+use Rattle.judge.specs.declared.Queried.the-variants.{Judged, Refused}
+use Rattle.judge.specs.OneSolution.{OneSolution}
+use Rattle.judge.specs.Lists.{reports, tableAfter, Reported, SameAnswers, visitsOf, judgedStates}
+use Rattle.judge.specs.Demand3.{RefusedState, ComesFrom, NeededFor, SameUnderExchange, ListCorrect, Demand3}
+use Rattle.judge.specs.QueryCorrect.{cellByte}
+use Rattle.rows.proofs.systems.Systems.{Each, neededFor, Solvable}
+use Rattle.rows.proofs.systems.Fuel.{each-map}
+use Rattle.rows.proofs.systems.Members.{each-at}
 use Rattle.rows.proofs.tables.Counting.{count-le}
 use Rattle.rows.proofs.lists.FromCleared.{Cleared, cleared}
-use Rattle.judge.proofs.cells.ValidCells.{Valid, root-valid}
+use Rattle.judge.proofs.cells.ValidCells.{Valid}
 use Rattle.judge.proofs.cells.Ranks.{rank}
-use Rattle.judge.proofs.cells.CellLayout.{solvable}
+use Rattle.judge.proofs.cells.CellLayout.{table-layout, solvable, position-inside, position-back}
 use Rattle.judge.proofs.truth.Truth.{verdict-truth}
 use Rattle.graph.proofs.looptest.LoopFree.{free-exactly-at, loop-reachable}
 use Rattle.judge.proofs.lists.JustCleared.{clears-long, cleared-only, cleared-length, cleared-below, cleared-above}
-use Rattle.judge.proofs.lists.SheetLists.{takes, Answer, reported-map, same-answers, Takes, Fine, Run, run, takenCells, taken-valid}
+use Rattle.judge.proofs.lists.Called.{gave-none, cleared-report}
+use Rattle.judge.proofs.lists.SheetLists.{takes, takes-valid, Answer, reported-map, same-answers, Takes, Fine, Run, run, starts, takenStates, taken-each}
+use Rattle.judge.proofs.statements.NeededCells.{needed-for}
+use Rattle.judge.proofs.statements.OneSolution.{Settled, written-falls, comes-settled, comes-on, solves}
 use Rattle.judge.proofs.exchange.ExchangedRows.{exchange-value, exchange-holds}
 
 -- the solution of a sheet's rows
 abbrev solutionOf : List ℕ → Cell → Bool
 solutionOf s = value (rows (planBody s) (actionsBody s) (ruleBody s)) enough
+
+-- what a refused query reports
+refused-report : (q : Queried) → reportedQuery q .number ≢ 0 → (reportedQuery q .verdict ≡ false) × (reportedQuery q .visits ≡ 0)
+refused-report (Judged v n) h = absurd (h refl)
+refused-report (Refused x) h = (refl, refl)
+
+refused-reports : (s states u : List ℕ) → Reported (λ state q. q .number ≢ 0 → (q .verdict ≡ false) × (q .visits ≡ 0)) states (reports s u states)
+unfolding reports
+refused-reports s [] u = tt
+refused-reports s (state ∷ states) u = (refused-report (queriedOf s state u), refused-reports s states (tableQueried s state u))
 
 module _ (s : List ℕ) (accepted : sheetCheck s ≡ Passed) where
   kept : WellFormedSheet s
@@ -57,10 +76,10 @@ module _ (s : List ℕ) (accepted : sheetCheck s ≡ Passed) where
 
   -- the states whose queries are not refused
   below : (state : ℕ) → Takes s accepted state → state < stateCount (planBody s)
-  below state h = ltb-true state (stateCount (planBody s)) (and-parts (ltb state (stateCount (planBody s))) (loopFree (planBody s) state) h .0)
+  below state h = takes-valid s accepted state h .state-below
 
   settles : (state : ℕ) → Takes s accepted state → settled (successors (planBody s)) (stateCount (planBody s)) state ≡ true
-  settles state h = and-parts (ltb state (stateCount (planBody s))) (loopFree (planBody s) state) h .1
+  settles state h = takes-valid s accepted state h .state-settled
 
   takes-none-refused : (state : ℕ) → Takes s accepted state → RefusedState s state → ⊥
   takes-none-refused state h (inl e) = omega (arith, below state h)
@@ -86,8 +105,12 @@ module _ (s : List ℕ) (accepted : sheetCheck s ≡ Passed) where
   solved : Solvable (positionOf (ruleBody s)) (rows (planBody s) (actionsBody s) (ruleBody s)) (cellBytes s) (cellAt (ruleBody s)) Cells (rank (planBody s) (ruleBody s)) enough
   solved = solvable bodies
 
+  starts-each : (l : List ℕ) → Each (λ state. Cells (cell 0 0 state)) l → Each Cells (starts s accepted l)
+  starts-each [] e = tt
+  starts-each (state ∷ l) e = (e .0, starts-each l (e .1))
+
   start : (state : ℕ) → Takes s accepted state → Cells (cell 0 0 state)
-  start state h = root-valid (bodies .rule-kept) state (below state h) (settles state h)
+  start = takes-valid s accepted
 
   table1 : (state : ℕ) → Takes s accepted state → (solutionOf s (cell 0 0 state) ≡ true) ↔ Verdict s state
   table1 state h = Iff·trans (verdict-truth (planBody s) (actionsBody s) (ruleBody s) bodies state (below state h) (settles state h)) (verdict-holds s state (below state h))
@@ -97,8 +120,11 @@ module _ (s : List ℕ) (accepted : sheetCheck s ≡ Passed) where
     abbrev u : List ℕ
     u = tableCleared s t
 
+    abbrev taken : List ℕ
+    taken = takenStates s accepted states
+
     abbrev cells : List Cell
-    cells = takenCells s accepted states
+    cells = starts s accepted taken
 
     long : cellBytes s ≤ length u
     long = rw (cleared-length s t accepted fits) fits
@@ -109,11 +135,15 @@ module _ (s : List ℕ) (accepted : sheetCheck s ≡ Passed) where
     fine : Fine s accepted u
     fine = record { long = long; small = λ i h. omega (arith, clear i h) }
 
-    ran : Run s accepted states u cells
+    ran : Run s accepted states u taken
     ran = run s accepted solved start states u fine
 
+    -- the cells of the states that are taken
+    taken-settled : Each (λ state. Settled s accepted (cell 0 0 state)) taken
+    taken-settled = each-map (λ state h. start state h) taken (taken-each s accepted states)
+
     left : Cleared solved u long clear cells (tableAfter s u states)
-    left = subst (Cleared solved u long clear cells) (sym (ran .ends)) (cleared solved u long clear cells (taken-valid s accepted solved start states))
+    left = subst (Cleared solved u long clear cells) (sym (ran .ends)) (cleared solved u long clear cells (starts-each taken taken-settled))
 
     answers : Reported (Answer (planBody s) (solutionOf s)) states (reports s u states)
     answers = ran .answers _ (left .verdicts)
@@ -161,32 +191,55 @@ module _ (s : List ℕ) (accepted : sheetCheck s ≡ Passed) (t : List ℕ) (fit
   exchanges whole choice = record {
     accepted = other-accepted s accepted whole choice;
     same-verdicts = same-verdict s accepted whole choice;
-    same-answers = λ u just.
-        let other = cleared-only (exchanged choice s) u just in
-        same-answers (planBody s) (solutionOf s) (solutionOf (exchanged choice s)) (same-solution s accepted whole choice)
-        states (reports s (tableCleared s t) states) (answered u) (answers s accepted t fits states)
-        (subst (λ (p : List ℕ). Reported (Answer p (solutionOf (exchanged choice s))) states (answered u)) (other-plan s accepted whole choice)
-        (answers (exchanged choice s) (other .0) u (other .1) states));
+    same-answers = λ t′ u r answers′ left′ c just q.
+        let gave = cleared-only (exchanged choice s) t′ (gave-none (exchanged choice s) t′ r u c just) in
+        subst (SameAnswers (reports s (tableCleared s t) states)) (sym (cleared-report (exchanged choice s) t′ states r u answers′ left′ c q))
+        (same-answers (planBody s) (solutionOf s) (solutionOf (exchanged choice s)) (same-solution s accepted whole choice)
+        states (reports s (tableCleared s t) states) (answered t′) (answers s accepted t fits states)
+        (subst (λ (p : List ℕ). Reported (Answer p (solutionOf (exchanged choice s))) states (answered t′)) (other-plan s accepted whole choice)
+        (answers (exchanged choice s) (gave .0) t′ (gave .1) states)));
   }
     where
       answered : List ℕ → List QueryReport
-      answered u = reports (exchanged choice s) (tableCleared (exchanged choice s) u) states
+      answered t′ = reports (exchanged choice s) (tableCleared (exchanged choice s) t′) states
 
-  -- the cells asked for are those of the queries not refused
-  asked : queriedCells states (reports s (tableCleared s t) states) ≡ takenCells s accepted states
-  asked = ran s accepted t fits states .cells
+  -- the queries not refused are those of the states that are taken
+  judged : judgedStates states (reports s (tableCleared s t) states) ≡ takenStates s accepted states
+  judged = ran s accepted t fits states .judged
 
-  exactly : (i : ℕ) → i < cellBytes s → filled (byteAt (tableAfter s (tableCleared s t) states) i) ≡ neededFor (positionOf (ruleBody s)) (rows (planBody s) (actionsBody s) (ruleBody s)) enough (takenCells s accepted states) i
+  abbrev after : List ℕ
+  after = tableAfter s (tableCleared s t) states
+
+  exactly : (i : ℕ) → i < cellBytes s
+      → filled (byteAt after i) ≡ neededFor (positionOf (ruleBody s)) (rows (planBody s) (actionsBody s) (ruleBody s)) enough (starts s accepted (takenStates s accepted states)) i
   exactly = left s accepted t fits states .exactly
 
-  demands : ListCorrect s t states
+  -- the cells that the queries of some states can come to
+  come-settled : (l : List ℕ) → Each (λ state. Settled s accepted (cell 0 0 state)) l → (c : Cell) → ComesFrom s l c → Settled s accepted c
+  come-settled l e c g = comes-settled s accepted (writtenRows s) (written-falls s accepted) (cell 0 0 (g .0)) c (each-at _ l e (g .0) (g .1)) (g .2)
+
+  one : (l : List ℕ) → Each (λ state. Settled s accepted (cell 0 0 state)) l → OneSolution s (writtenRows s) (ComesFrom s l) (solutionOf s)
+  one l e = solves s accepted (writtenRows s) (written-falls s accepted) (ComesFrom s l) (come-settled l e)
+      (λ c d g m. (g .0, g .1, comes-on (writtenRows s) (cell 0 0 (g .0)) c d (g .2) m))
+
+  needed : (c : Cell) → InTable s c → (filled (cellByte s after c) ≡ true) ↔ NeededFor s (solutionOf s) (takenStates s accepted states) c
+  needed c h =
+      let same = exactly (positionOf (ruleBody s) c) (position-inside s c h) in
+      Iff·trans (λ e. sym same ∙ e, λ e. same ∙ e) (needed-for s accepted (takenStates s accepted states) (taken-settled s accepted t fits states) c h)
+
+  demands : ListCorrect s t states (reports s (tableCleared s t) states) after
   demands = record {
     refusals = reported-map (λ state q a. number-of state q a) states (reports s (tableCleared s t) states) (answers s accepted t fits states);
+    refused = refused-reports s states (tableCleared s t);
     verdicts = reported-map (λ state q a. verdict-of state q a) states (reports s (tableCleared s t) states) (answers s accepted t fits states);
     exchange = exchanges;
-    cells = λ i h. exactly i h ∙ ap (λ (l : List Cell). neededFor (positionOf (ruleBody s)) (rows (planBody s) (actionsBody s) (ruleBody s)) enough l i) (sym asked);
-    solved = λ i h f. left s accepted t fits states .solved i h (sym (exactly i h) ∙ f);
-    empties = λ i h f. left s accepted t fits states .unsolved i h (sym (exactly i h) ∙ f);
+    solution = solutionOf s;
+    one-solution = subst (λ (l : List ℕ). OneSolution s (writtenRows s) (ComesFrom s l) (solutionOf s)) (sym judged) (one (takenStates s accepted states) (taken-settled s accepted t fits states));
+    cells = λ c h. subst (λ (l : List ℕ). (filled (cellByte s after c) ≡ true) ↔ NeededFor s (solutionOf s) l c) (sym judged) (needed c h);
+    solved = λ c h f.
+        let i = positionOf (ruleBody s) c in
+        left s accepted t fits states .solved i (position-inside s c h) (sym (exactly i (position-inside s c h)) ∙ f) ∙ ap (λ (d : Cell). byteOf (solutionOf s d)) (position-back s c h);
+    empties = λ c h f. let i = positionOf (ruleBody s) c in left s accepted t fits states .unsolved i (position-inside s c h) (sym (exactly i (position-inside s c h)) ∙ f);
     after-cells = λ i h. left s accepted t fits states .above i h ∙ cleared-above s t accepted fits i h;
     length-kept = left s accepted t fits states .long ∙ cleared-length s t accepted fits;
     sum = total-is s accepted t fits states;
@@ -207,6 +260,7 @@ module _ (s : List ℕ) (accepted : sheetCheck s ≡ Passed) (t : List ℕ) (fit
 
 pub demand3 : Demand3
 demand3 = record {
+  layout = table-layout;
   clears = clears-long;
   lists = λ s t states just. let q = cleared-only s t just in demands s (q .0) t (q .1) states;
 }

@@ -20,8 +20,9 @@ use Rattle.calculus.specs.Decode.{actionWithin, formulaWithin, formula}
 use Rattle.calculus.specs.Meaning.{meets}
 use Rattle.calculus.specs.MeetingMask.{bit}
 use Rattle.calculus.specs.Definition2.{guardedIn, guarded}
-use Rattle.calculus.specs.Verdict.{emptyContext}
+use Rattle.calculus.specs.Verdict.{emptyContext, Verdict}
 use Rattle.calculus.specs.Eval.{eval, rounds, tabulate, valuesBelow, anyTransition, departs}
+use Rattle.calculus.proofs.definition2.GuardCalls.{guard-exactly}
 use Rattle.calculus.proofs.masks.Bits.{bit-high}
 use Rattle.calculus.proofs.table1.Verdicts.{verdict-below, verdict-decided}
 use Rattle.rows.specs.Rows.{joined, looked, value, need}
@@ -29,15 +30,30 @@ use Rattle.graph.specs.LoopTest.{allPass, settled}
 use Rattle.rows.specs.Tables.{count, rewritten, among, changed, fills, filling, query}
 use Rattle.graph.specs.Successors.{targets}
 use Rattle.judge.specs.Cells.{following, rows, cellBytes}
-use Rattle.judge.specs.Querying.{bytesRight, queryCheck, queriedOf, tableQueried, QueryReport}
-use Rattle.judge.specs.Demand3.{reports}
+use Rattle.judge.specs.Querying.{bytesRight, queryCheck, queriedOf, tableQueried, QueryReport, reportedQuery}
+use Rattle.judge.specs.Lists.{reports}
+use Rattle.judge.specs.Demand3.{ListCorrect}
 use Rattle.calculus.specs.KeySheet.{K}
-use Rattle.judge.specs.SheetsToTry.{K-greatest, least-self, greatest-self, every-false, some-true, least-loop, greatest-loop, loops-elsewhere, judged, refusedBy, Asked, WordMeans, SheetsToTry}
-use Rattle.judge.proofs.lists.JustCleared.{cleared-exact}
+use Rattle.judge.specs.SheetsToTry.{K-greatest, least-self, greatest-self, every-false, some-true, least-loop, greatest-loop, loops-elsewhere, judged, refusedBy, Asked, AskedAnywhere, WordMeans, SheetsToTry}
+use Rattle.judge.proofs.lists.Called.{cleared-report}
+use Rattle.judge.proofs.statements.RunningCalls.{delivered}
+use Rattle.judge.proofs.lists.LongerTables.{reports-cleared}
 
--- on the cleared bytes alone
+-- on the cleared bytes alone: what follows them is not looked at
 asked : (s : List ℕ) (states : List ℕ) (answers : List QueryReport) → sheetCheck s ≡ Passed → reports s (replicate (cellBytes s) 0) states ≡ answers → Asked s (cellBytes s) states answers
-asked s states answers accepted e t size = subst (λ (u : List ℕ). reports s u states ≡ answers) (sym (cleared-exact s t accepted size)) e
+asked s states answers accepted e t fits r u reported left c q =
+    let same : reported ≡ answers = cleared-report s t states r u reported left c q ∙ reports-cleared s accepted states t fits ∙ e in
+    (same, subst (λ (x : List QueryReport). ListCorrect s t states x left) same (delivered .lists s t states r u reported left c (delivered .clears s t r u c accepted fits) q))
+
+anywhere : (s : List ℕ) (answer : QueryReport) → ((t : List ℕ) → reportedQuery (queriedOf s 0 t) ≡ answer) → AskedAnywhere s answer
+anywhere s answer e t r u q = q .1 .0 ∙ e t
+
+-- Table 1's verdict, where the evaluator gives it
+holds : (s : List ℕ) (state : ℕ) → sheetCheck s ≡ Passed → state < stateCount (planBody s) → eval (planOf (planBody s)) (formula (actionsBody s) (ruleBody s) 0) emptyContext state ≡ true → Verdict s state
+holds s state accepted h e = verdict-decided (accepted-iff s .0 accepted) state h .1 e
+
+fails : (s : List ℕ) (state : ℕ) → sheetCheck s ≡ Passed → state < stateCount (planBody s) → eval (planOf (planBody s)) (formula (actionsBody s) (ruleBody s) 0) emptyContext state ≡ false → Verdict s state → ⊥
+fails s state accepted h e v = false≢true (sym e ∙ verdict-decided (accepted-iff s .0 accepted) state h .0 v)
 
 -- where the evaluator says the same of every state
 word : (s : List ℕ) (w : ℕ) → sheetCheck s ≡ Passed → w < 2 ^ stateCount (planBody s)
@@ -57,20 +73,31 @@ unfolding bit sheetOf sheetCheck headingRight contentsRight entryIs bodiesCheck 
 sheets-to-try = record {
   key-length = refl;
   p1 = asked K (0 ∷ []) (judged true 17 ∷ []) refl refl;
+  p1-table1 = holds K 0 refl (omega arith) refl;
   p2 = asked K (0 ∷ 1 ∷ []) (judged true 17 ∷ judged true 0 ∷ []) refl refl;
+  p2-table1 = holds K 1 refl (omega arith) refl;
   p3 = asked K (0 ∷ 1 ∷ 2 ∷ []) (judged true 17 ∷ judged true 0 ∷ judged false 9 ∷ []) refl refl;
+  p3-table1 = fails K 2 refl (omega arith) refl;
   p4 = asked K-greatest (2 ∷ []) (judged true 8 ∷ []) refl refl;
+  p4-table1 = holds K-greatest 2 refl (omega arith) refl;
   p5 = word K 3 refl (omega arith) of-three;
   p6 = refl;
+  p6-call = λ r g. guard-exactly K r g .answered refl;
   p7 = asked least-self (0 ∷ []) (judged false 2 ∷ []) refl refl;
+  p7-table1 = fails least-self 0 refl (omega arith) refl;
   p8 = asked greatest-self (0 ∷ []) (judged true 2 ∷ []) refl refl;
+  p8-table1 = holds greatest-self 0 refl (omega arith) refl;
   p9 = asked every-false (2 ∷ []) (judged true 1 ∷ []) refl refl;
+  p9-table1 = holds every-false 2 refl (omega arith) refl;
   p10 = asked some-true (2 ∷ []) (judged false 1 ∷ []) refl refl;
+  p10-table1 = fails some-true 2 refl (omega arith) refl;
   p11-least = word least-loop 0 refl (omega arith) none;
   p11-greatest = word greatest-loop 1 refl (omega arith) one;
-  p11-query = λ t. refl;
-  p11-query-greatest = λ t. refl;
+  p11-query = anywhere least-loop (refusedBy 12) (λ t. refl);
+  p11-query-greatest = anywhere greatest-loop (refusedBy 12) (λ t. refl);
   b-loops = asked loops-elsewhere (0 ∷ 1 ∷ 2 ∷ 3 ∷ 4 ∷ 1 ∷ 5 ∷ []) (refusedBy 12 ∷ judged false 2 ∷ refusedBy 12 ∷ refusedBy 12 ∷ judged true 1 ∷ judged false 0 ∷ refusedBy 11 ∷ []) refl refl;
+  b-one-table1 = fails loops-elsewhere 1 refl (omega arith) refl;
+  b-four-table1 = holds loops-elsewhere 4 refl (omega arith) refl;
 }
   where
     of-three : (state : ℕ) → state < 3 → eval (planOf (planBody K)) (formula (actionsBody K) (ruleBody K) 0) emptyContext state ≡ bit 3 state

@@ -9,8 +9,7 @@ use Rattle.sheet.specs.declared.Refusal.{Refusal}
 use Rattle.sheet.specs.declared.Refusal.the-variants.{TableShort}
 use Rattle.sheet.specs.declared.Check.the-variants.{Passed, Failed}
 use Rattle.judge.specs.Cells.{cellBytes}
-use Rattle.judge.specs.Clearing.{clearCheck, clearedOf, tableCleared, reportedClear}
-use Rattle.judge.specs.RunningCalls.{Clears}
+use Rattle.judge.specs.Clearing.{clearCheck, clearedOf, tableCleared, reportedClear, Clears}
 use Rattle.judge.specs.declared.Cleared.{Cleared}
 use Rattle.judge.specs.declared.Cleared.the-variants.{Done, Refused}
 

@@ -15,7 +15,7 @@ use Rattle.rows.specs.Rows.{Row}
 use Rattle.rows.proofs.systems.Systems.{Each}
 use Rattle.judge.specs.Cells.{Cell, cell, opened, outer, cellBytes}
 use Rattle.judge.specs.internal.Deciding.{DecideRequires, FollowRequires}
-use Rattle.judge.specs.internal.Index.{Prepared, NodeAt, nodesAt, marksAt, bindersAt}
+use Rattle.judge.specs.internal.Index.{Prepared, BinderAt, NodeAt, nodesAt, marksAt, bindersAt}
 use Rattle.judge.proofs.cells.BindersAbove.{bound-above, above-below, above-counted, binder-counted, binds-own}
 use Rattle.judge.proofs.cells.Ranks.{falling}
 use Rattle.judge.proofs.cells.CellLayout.{layout}
@@ -116,14 +116,20 @@ module _ {s index t : List ℕ} {m n st : ℕ} (d : DecideRequires s index t (ce
     binder-below = omega (arith, above-below above .after, d .node-below)
 
     -- what the prepared numbers say of the variable's binder
-    pub binder-asked : {X : ℕ} → X ≡ xAt s n → (X < 6) × (getD index (bindersAt + X) 0 < 256)
+    binder-stored : {X : ℕ} → X ≡ xAt s n → getD index (bindersAt + X) 0 ≡ binderNode (ruleBody s) (xAt s n)
+    binder-stored {X} e = d .prepared .binders-are X (omega (arith, above-counted above)) ∙ ap (binderNode (ruleBody s)) e
+
+    pub binder-asked : {X : ℕ} → X ≡ xAt s n → BinderAt index X
     binder-asked {X} e =
         let r = bodies-kept s (d .accepted) .rule-kept in
-        let h : X < 6 = omega (arith, above-counted above, r .few-binders) in
-        (h, omega (arith, d .prepared .binders-are X h, ap (binderNode (ruleBody s)) e, binder-below, r .few-nodes))
+        record {
+          variable-below = omega (arith, above-counted above, r .few-binders);
+          node-below = omega (arith, binder-stored e, binder-below, d .prepared .nodes-are);
+          few-nodes = omega (arith, d .prepared .nodes-are, r .few-nodes);
+        }
 
     pub binder-found : {X b : ℕ} → X ≡ xAt s n → b ≡ getD index (bindersAt + X) 0 → b ≡ binderNode (ruleBody s) (xAt s n)
-    binder-found {X} e f = f ∙ (d .prepared .binders-are X (binder-asked e .0) ∙ ap (binderNode (ruleBody s)) e)
+    binder-found {X} e f = f ∙ binder-stored e
 
     pub binder-at : {X b : ℕ} → X ≡ xAt s n → b ≡ getD index (bindersAt + X) 0 → NodeAt s index b
     binder-at e f = record {

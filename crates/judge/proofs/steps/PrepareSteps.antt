@@ -1,38 +1,28 @@
 -- What the code of preparing shows.
-use Prim.Native.Nat.{ℕ, zero, suc, _+_, _-_, _<_, _≤_}
+use Prim.Native.Nat.{ℕ, _+_, _-_, _<_, _≤_}
 use mathlib.Core.Path.{_≡_, refl, sym, subst, _∙_}
-use mathlib.Core.Bool.{Bool, true, false}
+use mathlib.Core.Bool.{Bool, true}
 use mathlib.Core.List.{List}
 use native.Mathlib.Omega.{arith}
-use native.Mathlib.Numerals.{add-one}
 use native.Mathlib.Decide.{ℕ-discrete}
 use lib.ListN.{length, getD, set, length-set}
 use lib.Seq.{getD-set-same, getD-set-other}
 use borrow.Author.Count.{below-more}
 use Rattle.graph.proofs.search.Outgoing.{is-outgoing}
 use Rattle.graph.specs.Index.{firstsAt, indexSize}
-use Rattle.sheet.specs.Bytes.{byte, lowestFrom, lowest}
+use Rattle.sheet.specs.Bytes.{byte}
 use Rattle.sheet.specs.Contents.{headLength, planLength, ruleOffset, planBody, actionsBody, ruleBody}
 use Rattle.sheet.specs.Plan.{stateCount, label}
 use Rattle.sheet.specs.Rule.{nodeCount}
 use Rattle.sheet.specs.Reading.{sheetCheck}
 use Rattle.sheet.specs.declared.Check.the-variants.{Passed}
-use Rattle.sheet.proofs.acceptance.Parts.{plan-kept, few-states, slice-small}
-use Rattle.sheet.proofs.checks.Lowest.{lowest-start, lowest-next}
+use Rattle.sheet.proofs.acceptance.Parts.{plan-kept, rule-kept, few-states, slice-small}
 use Rattle.judge.specs.Cells.{marks}
 use Rattle.judge.specs.internal.Index.{Prepared, bindersAt}
 use Rattle.graph.specs.Search.{foundNone, indexLeft, explored}
 use Rattle.graph.specs.Explored.{SameBefore, Explored, ExploreRequires}
 use Rattle.graph.proofs.search.SearchRight.{explore-right}
-use Rattle.judge.specs.internal.Preparing.{Headed, Binders, Masks}
-
--- ---- a search that begins further on
-
--- a search may begin at i where the test fails before it
-pub begin : (test : ℕ → Bool) (n i : ℕ) → i ≤ n → ((k : ℕ) → k < i → test k ≡ false) → lowestFrom test (n - i) i ≡ lowest test n
-begin test n zero h none = lowest-start test n
-begin test n (suc i) h none =
-    rw (← add-one) (sym (lowest-next test n i (omega arith) (none i (omega arith))) ∙ begin test n i (omega arith) (λ k l. none k (omega arith)))
+use Rattle.judge.specs.internal.Preparing.{Headed, BindersAsked, Binders, Masks}
 
 -- ---- places that are filled one after another
 
@@ -93,6 +83,11 @@ headed s l o n m size p q r =
       marks-are = getD-set-same (set (set l 0 o) 1 n) 2 m 0 (omega arith) ∙ r;
     }
 
+pub binders-asked : (s : List ℕ) {r index : List ℕ} → sheetCheck s ≡ Passed → r ≡ ruleBody s → Headed s index → BindersAsked r index
+binders-asked s {r} {index} e rule h =
+    subst (λ (x : List ℕ). BindersAsked x index) (sym rule)
+    (record { few-nodes = rule-kept s e .few-nodes; few-binders = rule-kept s e .few-binders; marks-are = h .marks-are; size = h .size })
+
 -- ---- all steps together
 
 -- what the search leaves, of the plan of an accepted sheet
@@ -115,7 +110,9 @@ module _ (s : List ℕ) (e : sheetCheck s ≡ Passed) (state : ℕ) where
         offset-is = after-head 0 (omega arith) ∙ h .offset-is;
         nodes-are = after-head 1 (omega arith) ∙ h .nodes-are;
         marks-are = after-head 2 (omega arith) ∙ h .marks-are;
-        binders-are = λ k l. m .same (bindersAt + k) (omega arith) ∙ x .same refl (bindersAt + k) (omega arith) ∙ b .filled k l;
+        binders-are = λ k l.
+            let six : k < 6 = omega (arith, rule-kept s e .few-binders) in
+            m .same (bindersAt + k) (omega arith) ∙ x .same refl (bindersAt + k) (omega arith) ∙ b .filled k l;
         states-are = λ u r.
             let k = x .reached refl u r in
             let small : u < 128 = omega (arith, k .state-below, few-states s e) in

@@ -20,11 +20,10 @@ use Rattle.sheet.specs.declared.Check.the-variants.{Passed, Failed}
 use Rattle.rows.specs.Tables.{byteAt, Result, out, verdict, visits, table}
 use Rattle.judge.specs.Cells.{cell, cellBytes}
 use Rattle.graph.specs.LoopTest.{loopFree}
-use Rattle.judge.specs.Querying.{bytesRight, queryCheck, resultOf, queriedOf, tableQueried, reportedQuery}
+use Rattle.judge.specs.Querying.{bytesRight, queryCheck, resultOf, queriedOf, tableQueried, reportedQuery, Queries}
 use Rattle.judge.specs.internal.Deciding.{DecideRequires, Decided}
 use Rattle.judge.specs.internal.Packed.{verdictIn, visitsIn}
 use Rattle.judge.specs.internal.Index.{QueryRequires}
-use Rattle.judge.specs.RunningCalls.{Queries}
 use Rattle.judge.specs.declared.Queried.{Queried}
 use Rattle.judge.specs.declared.Queried.the-variants.{Judged, Refused}
 

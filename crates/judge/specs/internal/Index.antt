@@ -7,7 +7,7 @@ use mathlib.Core.List.{List}
 use lib.ListN.{getD}
 use Rattle.sheet.specs.Contents.{planBody, actionsBody, ruleBody, ruleOffset}
 use Rattle.sheet.specs.Plan.{stateCount, actionCount, transitionCount, label}
-use Rattle.sheet.specs.Rule.{nodeCount, binderNode}
+use Rattle.sheet.specs.Rule.{nodeCount, binderCount, binderNode}
 use Rattle.sheet.specs.Reading.{sheetCheck}
 use Rattle.sheet.specs.declared.Check.the-variants.{Passed}
 use Rattle.calculus.specs.MeetingMask.{meetingMask}
@@ -30,7 +30,7 @@ nodesAt = 1
 abbrev pub marksAt : ℕ
 marksAt = 2
 
--- from here on, the nodes of binders 0, 1 and so on
+-- from here on, the nodes of the B binders, in the order of the variables that they bind
 abbrev pub bindersAt : ℕ
 bindersAt = 3
 
@@ -48,7 +48,7 @@ pub record Prepared (s index : List ℕ) (state : ℕ) : Type 0 where
   pub offset-is : getD index ruleAt 0 ≡ ruleOffset s
   pub nodes-are : getD index nodesAt 0 ≡ nodeCount (ruleBody s)
   pub marks-are : getD index marksAt 0 ≡ marks (ruleBody s)
-  pub binders-are : (k : ℕ) → k < 6 → getD index (bindersAt + k) 0 ≡ binderNode (ruleBody s) k
+  pub binders-are : (k : ℕ) → k < binderCount (ruleBody s) → getD index (bindersAt + k) 0 ≡ binderNode (ruleBody s) k
   pub states-are : (u : ℕ) → Reachable (successors (planBody s)) state u → PreparedState s index u
 
 -- a state of an accepted sheet from which no loop can be reached, with what is prepared for its query
@@ -57,6 +57,12 @@ pub record QueryRequires (s index : List ℕ) (state : ℕ) : Type 0 where
   pub state-below : state < stateCount (planBody s)
   pub loop-free : loopFree (planBody s) state ≡ true
   pub prepared : Prepared s index state
+
+-- variable k is one of six, and its place in the index holds one of the rule's nodes
+pub record BinderAt (index : List ℕ) (k : ℕ) : Type 0 where
+  pub variable-below : k < 6
+  pub node-below : getD index (bindersAt + k) 0 < getD index nodesAt 0
+  pub few-nodes : getD index nodesAt 0 ≤ 64
 
 -- a node of an accepted sheet, and where its rule lies
 pub record NodeAt (s index : List ℕ) (n : ℕ) : Type 0 where

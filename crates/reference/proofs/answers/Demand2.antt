@@ -1,9 +1,9 @@
--- Demand 2 shown, over the promise of the reference judge. The statement is Demand2 of specs/Demand2.antt.
+-- Demand 2 shown, of every call of the reference judge, the reader and the writer. The statement is Demand2 of specs/Demand2.antt.
 use Prim.Native.Nat.{ℕ, _<_, _≤_}
-use mathlib.Core.Path.{_≡_, refl, sym, ap, _∙_}
+use mathlib.Core.Path.{_≡_, refl, sym, ap, subst, _∙_}
 use mathlib.Core.Bool.{Bool, true, false≢true}
 use mathlib.Core.List.{List}
-use mathlib.Core.Logic.{_↔_}
+use mathlib.Core.Logic.{_↔_, _≢_, inl, inr}
 use native.Mathlib.Omega.{arith}
 use native.Mathlib.Decide.{decLt}
 use borrow.Author.Tests.{lt-ltb, le-ltb}
@@ -14,13 +14,20 @@ use Rattle.sheet.specs.Reading.{sheetCheck}
 use Rattle.sheet.specs.declared.Check.the-variants.{Passed, Failed}
 use Rattle.sheet.specs.declared.Refusal.{Refusal}
 use Rattle.sheet.specs.declared.Refusal.the-variants.{TooManyStates}
+use Rattle.sheet.specs.declared.Check.{Check}
+use Rattle.sheet.specs.Refusals.{numberOf}
+use Rattle.sheet.specs.WellFormed.{WellFormedSheet}
+use Rattle.sheet.proofs.acceptance.Numbers.{low-refusal, refused-number}
+use Rattle.sheet.proofs.acceptance.Order.{given-in-order}
+use Rattle.sheet.proofs.acceptance.Sheet.{accepted-iff}
 use Rattle.sheet.proofs.acceptance.Parts.{sheet-kept}
+use Rattle.sheet.proofs.roundtrip.Promises.{round-trip}
 use Rattle.calculus.specs.MeetingMask.{bit}
 use Rattle.calculus.specs.Verdict.{Verdict}
 use Rattle.calculus.proofs.table1.Verdicts.{verdict-below, verdict-decided}
 use Rattle.reference.specs.declared.Reference.{Reference}
 use Rattle.reference.specs.declared.Reference.the-variants.{Word, Refused}
-use Rattle.reference.specs.Reference.{inMeaning, meaningWord, answerReference, referenceOf, reportedReference, referenceReportOf, ByTable1}
+use Rattle.reference.specs.Reference.{inMeaning, meaningWord, answerReference, referenceOf, ReferenceReport, reportedReference, referenceReportOf, ByTable1}
 use Rattle.reference.specs.Demand2.{ReportedBySheet, Demand2}
 use Rattle.reference.proofs.words.Words.{word-bit, word-high}
 
@@ -50,7 +57,7 @@ module _ (s : List ℕ) where
             | no h ↦ absurd (false≢true (sym (word-high (stateCount (planBody s)) (inMeaning s) t (omega arith)) ∙ b))
           ]
 
-  pub by-table1 : ByTable1 s (referenceOf s)
+  by-table1 : ByTable1 s (referenceOf s)
   by-table1 = record {
     accepted = λ e h. record { word = meaningWord s; is = sym (promised-word e h); bits = word-bits e };
     large = λ e h. sym (promised-large e h);
@@ -63,12 +70,52 @@ module _ (s : List ℕ) where
     accepted = λ e h. ap reportedReference (sym (promised-word e h));
     large = λ e h. ap reportedReference (sym (promised-large e h));
     refused = λ x e. ap reportedReference (sym (promised-refused x e));
+    zero = by-check (sheetCheck s) refl .0;
+    thirteen = by-check (sheetCheck s) refl .1;
+    in-order = given-in-order s (referenceReportOf s .number) (referenceReportOf s .place)
+        (λ x e. let q = ap reportedReference (sym (promised-refused x e)) in (ap (λ (a : ReferenceReport). a .number) q, ap (λ (a : ReferenceReport). a .place) q))
+        (λ e. elim (decLt 64 (stateCount (planBody s))) [
+          | yes h ↦ inr (let n : referenceReportOf s .number ≡ 13 = ap (λ (a : Reference). reportedReference a .number) (sym (promised-large e h)) in omega arith)
+          | no h ↦ inl (ap (λ (a : Reference). reportedReference a .number) (sym (promised-word e (omega arith))))
+        ]);
   }
+    where
+      number : {r : Reference} → r ≡ referenceOf s → referenceReportOf s .number ≡ reportedReference r .number
+      number q = ap (λ (a : Reference). reportedReference a .number) (sym q)
+
+      Numbers : Type 0
+      Numbers =
+          ((referenceReportOf s .number ≡ 0) ↔ (WellFormedSheet s × (stateCount (planBody s) ≤ 64)))
+          × ((referenceReportOf s .number ≡ 13) ↔ (WellFormedSheet s × (64 < stateCount (planBody s))))
+
+      by-check : (c : Check) → sheetCheck s ≡ c → Numbers
+      by-check Passed e =
+          elim (decLt 64 (stateCount (planBody s))) [
+            | yes h ↦ (
+              (λ q. absurd (omega (arith, number (promised-large e h))), λ w. absurd (omega (arith, w .1))),
+              (λ q. (sheet-kept s e, h), λ w. number (promised-large e h)),
+            )
+            | no h ↦ (
+              (λ q. (sheet-kept s e, omega arith), λ w. number (promised-word e (omega arith))),
+              (λ q. absurd (omega (arith, number (promised-word e (omega arith)))), λ w. absurd (omega (arith, w .1))),
+            )
+          ]
+      by-check (Failed x) e =
+          let n : referenceReportOf s .number ≡ numberOf x = number (promised-refused x e) in (
+            (λ q. absurd (omega (arith, refused-number x)), λ w. absurd (clash x e (w .0))),
+            (λ q. absurd (omega (arith, low-refusal s e)), λ w. absurd (clash x e (w .0))),
+          )
+        where
+          clash : (x : Refusal) → sheetCheck s ≡ Failed x → WellFormedSheet s → ⊥
+          clash x e w = let f : Passed ≡ Failed x = sym (accepted-iff s .1 w) ∙ e in let z : _≡_ {A = ℕ} 0 1 = cc in omega arith
 
 -- a report with a refusal's number has the word 0
-refused-word : (r : Reference) → (reportedReference r .number ≡ 0 → ⊥) → reportedReference r .word ≡ 0
+refused-word : (r : Reference) → reportedReference r .number ≢ 0 → reportedReference r .word ≡ 0
 refused-word (Word w) n = absurd (n refl)
 refused-word (Refused x) n = refl
 
-pub demand2 : (s : List ℕ) → Demand2 s
-demand2 s = record { answer = by-table1 s; report = reported s; zero = refused-word (referenceOf s) }
+pub demand2 : Demand2
+demand2 = record {
+  calls = λ s r c. record { answer = subst (ByTable1 s) (sym (c .0)) (by-table1 s); report = subst (ReportedBySheet s) (sym (c .1)) (reported s); zero = refused-word r };
+  round-trip = round-trip;
+}

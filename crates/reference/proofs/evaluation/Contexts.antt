@@ -11,16 +11,16 @@ use lib.ListN.{getD}
 use Rattle.sheet.specs.Contents.{planBody, actionsBody, ruleBody}
 use Rattle.sheet.specs.Plan.{stateCount}
 use Rattle.sheet.specs.Actions.{entryCount}
-use Rattle.sheet.specs.Rule.{nodeCount, nodeKind, nodeX, binderNode, bindersBefore}
+use Rattle.sheet.specs.Rule.{nodeCount, nodeKind, nodeX, bindersBefore}
 use Rattle.sheet.specs.WellFormed.{WellFormedRule, WellFormedSheet}
-use Rattle.sheet.proofs.nodes.Binders.{kind-binder, binders-next, binders-rise, binder-node}
+use Rattle.sheet.proofs.nodes.Binders.{kind-binder, binders-next, binders-rise, binder-one}
 use Rattle.calculus.specs.Decode.{formula}
 use Rattle.calculus.specs.MeetingMask.{bit}
 use Rattle.calculus.proofs.table1.Monotone.{free, all-states}
 use Rattle.calculus.proofs.table1.Locality.{local-free, monotone}
 use Rattle.calculus.proofs.decoding.Variables.{Above, free-at}
 use Rattle.calculus.proofs.table1.Verdicts.{sheet-in-range}
-use Rattle.reference.specs.internal.Evaluating.{NodeMeaning, Ready}
+use Rattle.reference.specs.internal.Evaluating.{Restartable, NodeMeaning, Ready}
 
 module _ {s : List ℕ} (kept : WellFormedSheet s) where
   rule-of : WellFormedRule (entryCount (actionsBody s)) (ruleBody s)
@@ -42,13 +42,19 @@ module _ {s : List ℕ} (kept : WellFormedSheet s) where
     bound-before : (m : ℕ) → b < m → nodeX (ruleBody s) b < bindersBefore (ruleBody s) m
     bound-before m k = omega (arith, bound-next, binders-rise (ruleBody s) (suc b) m k)
 
-    -- and the binder of that number is the node
-    pub bound-kind : nodeKind (ruleBody s) (binderNode (ruleBody s) (nodeX (ruleBody s) b)) ≡ nodeKind (ruleBody s) b
-    bound-kind = ap (nodeKind (ruleBody s)) (binder-node (ruleBody s) b (nodeX (ruleBody s) b)
-        (record { among = l; is-binder = kind-binder (ruleBody s) b h g; numbered = sym bound-number }))
-
     pub bound-six : nodeX (ruleBody s) b < 6
     bound-six = omega (arith, bound-before (nodeCount (ruleBody s)) l, rule-of .few-binders)
+
+  -- binders of one variable are one node
+  pub bound-one : (b c : ℕ) → b < nodeCount (ruleBody s) → c < nodeCount (ruleBody s) → 7 ≤ nodeKind (ruleBody s) b → nodeKind (ruleBody s) b < 9
+      → 7 ≤ nodeKind (ruleBody s) c → nodeKind (ruleBody s) c < 9 → nodeX (ruleBody s) b ≡ nodeX (ruleBody s) c → b ≡ c
+  bound-one b c l m h g i j q =
+      binder-one (ruleBody s) b c (kind-binder (ruleBody s) b h g) (kind-binder (ruleBody s) c i j) (sym (bound-number b l h g) ∙ (q ∙ bound-number c m i j))
+
+  -- a set can be given to each variable that a fixed point of a kind binds
+  pub restartable : {r : List ℕ} → r ≡ ruleBody s → (first kind : ℕ) → first < nodeCount (ruleBody s) → 7 ≤ kind → kind < 9 → Restartable r first kind
+  restartable rule first kind l h g =
+      subst (λ (x : List ℕ). Restartable x first kind) (sym rule) (record { among = l; six = λ b c q. bound-six b c (omega arith) (omega arith) })
 
   module _ (b : ℕ) (l : b < nodeCount (ruleBody s)) (words words′ : List ℕ) where
     -- the variables free in the node's formula decide

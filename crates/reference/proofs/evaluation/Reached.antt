@@ -1,5 +1,5 @@
 -- A round of a least and of a greatest fixed point, and the round that changes nothing.
-use Prim.Native.Nat.{ℕ, _+_, _-_, _^_, _<_, _≤_}
+use Prim.Native.Nat.{ℕ, _-_, _^_, _<_, _≤_}
 use mathlib.Core.Path.{_≡_, sym, ap, ap₂, subst, _∙_}
 use mathlib.Core.Bool.{Bool, true, and-eq-true-iff, false≢true}
 use mathlib.Core.List.{List}
@@ -26,8 +26,11 @@ use Rattle.reference.proofs.evaluation.Clauses.{At, statesOf, φ, kind-
 use Rattle.reference.proofs.evaluation.Rounds.{or-left, and-falls, Going, next-is, wf, i, kept, came, own, each, stays, starts, here, again}
 
 module _ {s masks : List ℕ} {n : ℕ} {words₀ : List ℕ} {f : Fields} (at : At s masks n words₀ f) (h : 7 ≤ f .kind) (g : f .kind < 9)
-    (words : List ℕ) (i′ : Going s (f .y - 1) (f .x) words₀ words) (v : ℕ) (v-is : v ≡ getD words (f .x) 0)
-    (words₁ : List ℕ) (w : ℕ) (m : Evaluated s (f .y) words words₁ w) where
+    (words : List ℕ) (i′ : Going s (f .y - 1) (f .x) words₀ words) (words₁ : List ℕ) (w : ℕ) (m : Evaluated s (f .y) words words₁ w)
+    (v : ℕ) (v-left : v ≡ getD words₁ (f .x) 0) where
+  v-is : v ≡ getD words (f .x) 0
+  v-is = v-left ∙ kept at h g words i′ words₁ w m (f .x) (omega arith)
+
   small : v < 2 ^ statesOf s
   small = omega (arith, v-is, i at h g words i′ .sets .below (f .x))
 
@@ -70,21 +73,21 @@ module _ {s masks : List ℕ} {n : ℕ} {words₀ : List ℕ} {f : Fields} (at :
 
     -- the set has grown: fewer words are left
     pub least-less : (full : ℕ) (words₂ : List ℕ) → words₂ ≡ set words₁ (f .x) (bitOr v w) → (r : List ℕ) → r ≡ ruleBody s → (words₃ : List ℕ)
-        → Restarted r (f .x + 1) 6 8 full words₂ words₃ → (bitOr v w ≡ v → ⊥) → 2 ^ 64 - getD words₃ (f .x) 0 < 2 ^ 64 - getD words (f .x) 0
+        → Restarted r (f .y) (nodeCount r) 8 full words₂ words₃ → (bitOr v w ≡ v → ⊥) → 2 ^ 64 - getD words₃ (f .x) 0 < 2 ^ 64 - getD words (f .x) 0
     least-less full words₂ put r rule words₃ re q =
-        omega (arith, own at h g words i′ words₁ w m (bitOr v w) full 8 words₂ put r rule words₃ re, v-is, or-left (statesOf s) v w (at .pre .few) small q)
+        omega (arith, own at h g words i′ words₁ w m (bitOr v w) full 8 words₂ put r rule words₃ re (omega arith) (omega arith), v-is, or-left (statesOf s) v w (at .pre .few) small q)
 
     pub least-round : (full : ℕ) → full ≡ 2 ^ statesOf s - 1 → (words₂ : List ℕ) → words₂ ≡ set words₁ (f .x) (bitOr v w) → (r : List ℕ) → r ≡ ruleBody s → (words₃ : List ℕ)
-        → Restarted r (f .x + 1) 6 8 full words₂ words₃ → Going s (f .y - 1) (f .x) words₀ words₃
+        → Restarted r (f .y) (nodeCount r) 8 full words₂ words₃ → Going s (f .y - 1) (f .x) words₀ words₃
     least-round full full-is words₂ put r rule words₃ re =
-        again at h g words i′ words₁ w m (bitOr v w) full 8 words₂ put r rule words₃ re (or-lt (statesOf s) v w small (m .are .small)) (omega (arith, ones-lt (statesOf s))) (record {
+        again at h g words i′ words₁ w m (bitOr v w) full 8 words₂ put r rule words₃ re (omega arith) (omega arith) (or-lt (statesOf s) v w small (m .are .small)) (omega (arith, ones-lt (statesOf s))) (record {
           inside = λ b c l e. elim (decLt n b) [
             | yes d ↦ (λ t r′ q. more b l t r′ (m .ready .inside b (omega (arith, next-is at h g)) l e t r′
-                (sym (ap (λ (z : ℕ). bit z t) (stays at h g words i′ words₁ w m (bitOr v w) full 8 words₂ put r rule words₃ re b d l (omega arith) (omega arith) (λ x. omega arith))) ∙ q)))
+                (sym (ap (λ (z : ℕ). bit z t) (stays at h g words i′ words₁ w m (bitOr v w) full 8 words₂ put r rule words₃ re (omega arith) (omega arith) b d l (omega arith) (omega arith) (λ x. omega arith))) ∙ q)))
             | no d ↦ (let q : n ≡ b = omega arith in subst (λ (j : ℕ). (t : ℕ) → t < statesOf s → bit (getD words₃ (nodeX (ruleBody s) j) 0) t ≡ true → NodeMeaning s j words₃ t) q node)
           ];
           around = λ b c l e. elim (decLt n b) [
-            | yes d ↦ (λ t r′ q. ap (λ (z : ℕ). bit z t) (starts at h g words i′ words₁ w m (bitOr v w) full 8 words₂ put r rule words₃ re b d l (omega arith) (omega arith) e) ∙ on t r′)
+            | yes d ↦ (λ t r′ q. ap (λ (z : ℕ). bit z t) (starts at h g words i′ words₁ w m (bitOr v w) full 8 words₂ put r rule words₃ re (omega arith) (omega arith) b d l (omega arith) (omega arith) e) ∙ on t r′)
             | no d ↦ (let q : n ≡ b = omega arith in absurd (omega (arith, ap (nodeKind (ruleBody s)) q, kind-is at)))
           ];
         })
@@ -93,7 +96,7 @@ module _ {s masks : List ℕ} {n : ℕ} {words₀ : List ℕ} {f : Fields} (at :
         on t l = ap (λ (z : ℕ). bit z t) full-is ∙ bit-ones (statesOf s) t l
 
         grown : (k t : ℕ) → t < statesOf s → bit (getD words₁ k 0) t ≡ true → bit (getD words₃ k 0) t ≡ true
-        grown k t l e = go (each at h g words i′ words₁ w m (bitOr v w) full 8 words₂ put r rule words₃ re k)
+        grown k t l e = go (each at h g words i′ words₁ w m (bitOr v w) full 8 words₂ put r rule words₃ re (omega arith) (omega arith) k)
           where
             go : ((k ≡ f .x) × (getD words₃ k 0 ≡ bitOr v w)) ⊎ ((getD words₃ k 0 ≡ full) ⊎ (getD words₃ k 0 ≡ getD words₁ k 0)) → bit (getD words₃ k 0) t ≡ true
             go (inl q) =
@@ -107,10 +110,10 @@ module _ {s masks : List ℕ} {n : ℕ} {words₀ : List ℕ} {f : Fields} (at :
 
         node : (t : ℕ) → t < statesOf s → bit (getD words₃ (nodeX (ruleBody s) n) 0) t ≡ true → NodeMeaning s n words₃ t
         node t l e =
-            here at h g words i′ words₁ w m (bitOr v w) full 8 words₂ put r rule words₃ re t l .0
+            here at h g words i′ words₁ w m (bitOr v w) full 8 words₂ put r rule words₃ re (omega arith) (omega arith) t l .0
             (⊎-elim (inside t l) (image-inside t l) (or-true (bit v t) (bit w t) .0
             (sym (bit-or v w t) ∙ (sym (ap (λ (z : ℕ). bit z t)
-            (ap (λ (x : ℕ). getD words₃ x 0) (sym (x-is at)) ∙ own at h g words i′ words₁ w m (bitOr v w) full 8 words₂ put r rule words₃ re)) ∙ e))))
+            (ap (λ (x : ℕ). getD words₃ x 0) (sym (x-is at)) ∙ own at h g words i′ words₁ w m (bitOr v w) full 8 words₂ put r rule words₃ re (omega arith) (omega arith))) ∙ e))))
 
   module _ (k : f .kind ≡ 8) where
     greatest-is : φ s n ≡ greatest (f .x) (φ s (f .y))
@@ -142,28 +145,28 @@ module _ {s masks : List ℕ} {n : ℕ} {words₀ : List ℕ} {f : Fields} (at :
 
     -- the set has shrunk
     pub greatest-less : (words₂ : List ℕ) → words₂ ≡ set words₁ (f .x) (bitAnd v w) → (r : List ℕ) → r ≡ ruleBody s → (words₃ : List ℕ)
-        → Restarted r (f .x + 1) 6 7 0 words₂ words₃ → (bitAnd v w ≡ v → ⊥) → getD words₃ (f .x) 0 < getD words (f .x) 0
+        → Restarted r (f .y) (nodeCount r) 7 0 words₂ words₃ → (bitAnd v w ≡ v → ⊥) → getD words₃ (f .x) 0 < getD words (f .x) 0
     greatest-less words₂ put r rule words₃ re q =
-        omega (arith, own at h g words i′ words₁ w m (bitAnd v w) 0 7 words₂ put r rule words₃ re, v-is, and-falls v w q)
+        omega (arith, own at h g words i′ words₁ w m (bitAnd v w) 0 7 words₂ put r rule words₃ re (omega arith) (omega arith), v-is, and-falls v w q)
 
     pub greatest-round : (words₂ : List ℕ) → words₂ ≡ set words₁ (f .x) (bitAnd v w) → (r : List ℕ) → r ≡ ruleBody s → (words₃ : List ℕ)
-        → Restarted r (f .x + 1) 6 7 0 words₂ words₃ → Going s (f .y - 1) (f .x) words₀ words₃
+        → Restarted r (f .y) (nodeCount r) 7 0 words₂ words₃ → Going s (f .y - 1) (f .x) words₀ words₃
     greatest-round words₂ put r rule words₃ re =
-        again at h g words i′ words₁ w m (bitAnd v w) 0 7 words₂ put r rule words₃ re (and-lt (statesOf s) v w small (m .are .small)) (pow-pos (statesOf s)) (record {
+        again at h g words i′ words₁ w m (bitAnd v w) 0 7 words₂ put r rule words₃ re (omega arith) (omega arith) (and-lt (statesOf s) v w small (m .are .small)) (pow-pos (statesOf s)) (record {
           inside = λ b c l e. elim (decLt n b) [
             | yes d ↦ (λ t r′ q. absurd (false≢true (sym (bit-zero t) ∙ (sym (ap (λ (z : ℕ). bit z t)
-                (starts at h g words i′ words₁ w m (bitAnd v w) 0 7 words₂ put r rule words₃ re b d l (omega arith) (omega arith) e)) ∙ q))))
+                (starts at h g words i′ words₁ w m (bitAnd v w) 0 7 words₂ put r rule words₃ re (omega arith) (omega arith) b d l (omega arith) (omega arith) e)) ∙ q))))
             | no d ↦ (let q : n ≡ b = omega arith in absurd (omega (arith, ap (nodeKind (ruleBody s)) q, kind-is at)))
           ];
           around = λ b c l e. elim (decLt n b) [
-            | yes d ↦ (λ t r′ q. ap (λ (z : ℕ). bit z t) (stays at h g words i′ words₁ w m (bitAnd v w) 0 7 words₂ put r rule words₃ re b d l (omega arith) (omega arith) (λ x. omega arith)) ∙
+            | yes d ↦ (λ t r′ q. ap (λ (z : ℕ). bit z t) (stays at h g words i′ words₁ w m (bitAnd v w) 0 7 words₂ put r rule words₃ re (omega arith) (omega arith) b d l (omega arith) (omega arith) (λ x. omega arith)) ∙
                 m .ready .around b (omega (arith, next-is at h g)) l e t r′ (less b l t r′ q))
             | no d ↦ (let q : n ≡ b = omega arith in subst (λ (j : ℕ). (t : ℕ) → t < statesOf s → NodeMeaning s j words₃ t → bit (getD words₃ (nodeX (ruleBody s) j) 0) t ≡ true) q node)
           ];
         })
       where
         fallen : (k t : ℕ) → t < statesOf s → bit (getD words₃ k 0) t ≡ true → bit (getD words₁ k 0) t ≡ true
-        fallen k t l e = go (each at h g words i′ words₁ w m (bitAnd v w) 0 7 words₂ put r rule words₃ re k)
+        fallen k t l e = go (each at h g words i′ words₁ w m (bitAnd v w) 0 7 words₂ put r rule words₃ re (omega arith) (omega arith) k)
           where
             go : ((k ≡ f .x) × (getD words₃ k 0 ≡ bitAnd v w)) ⊎ ((getD words₃ k 0 ≡ 0) ⊎ (getD words₃ k 0 ≡ getD words₁ k 0)) → bit (getD words₁ k 0) t ≡ true
             go (inl q) =
@@ -177,6 +180,6 @@ module _ {s masks : List ℕ} {n : ℕ} {words₀ : List ℕ} {f : Fields} (at :
 
         node : (t : ℕ) → t < statesOf s → NodeMeaning s n words₃ t → bit (getD words₃ (nodeX (ruleBody s) n) 0) t ≡ true
         node t l e =
-            let e′ = here at h g words i′ words₁ w m (bitAnd v w) 0 7 words₂ put r rule words₃ re t l .1 e in
-            ap (λ (z : ℕ). bit z t) (ap (λ (x : ℕ). getD words₃ x 0) (sym (x-is at)) ∙ own at h g words i′ words₁ w m (bitAnd v w) 0 7 words₂ put r rule words₃ re) ∙
+            let e′ = here at h g words i′ words₁ w m (bitAnd v w) 0 7 words₂ put r rule words₃ re (omega arith) (omega arith) t l .1 e in
+            ap (λ (z : ℕ). bit z t) (ap (λ (x : ℕ). getD words₃ x 0) (sym (x-is at)) ∙ own at h g words i′ words₁ w m (bitAnd v w) 0 7 words₂ put r rule words₃ re (omega arith) (omega arith)) ∙
             (bit-and v w t ∙ and-eq-true-iff (bit v t) (bit w t) .1 (around t l e′, image-around t l e′))

@@ -1,11 +1,11 @@
 -- The rounds of a fixed point: from below the set grows inside the least, from above it shrinks around the greatest, and it is reached when a round
 -- changes nothing. Fixed points inside it that may have been passed start anew.
-use Prim.Native.Nat.{ℕ, suc, _+_, _-_, _^_, _<_, _≤_}
+use Prim.Native.Nat.{ℕ, suc, _-_, _^_, _<_, _≤_}
 use mathlib.Core.Path.{_≡_, refl, sym, ap, subst, _∙_}
 use mathlib.Core.List.{List}
 use mathlib.Core.Logic.{_↔_, _⊎_, inl, inr}
 use native.Mathlib.Omega.{arith}
-use native.Mathlib.Decide.{ℕ-discrete, decLt}
+use native.Mathlib.Decide.{ℕ-discrete}
 use lib.ListN.{getD, set, length, length-set}
 use lib.Seq.{getD-set-same, getD-set-other}
 use lib.Pow.{pow-mono}
@@ -17,9 +17,9 @@ use Rattle.sheet.proofs.nodes.Children.{BinderChild, binder-child}
 use Rattle.sheet.proofs.nodes.Binders.{binders-next, binders-rise}
 use Rattle.sheet.specs.TransitionSystem.{TransitionsInRange, planOf}
 use Rattle.calculus.proofs.table1.Verdicts.{sheet-in-range}
-use Rattle.reference.specs.internal.Evaluating.{Members, SixSets, binderKind, Restarted, NodeMeaning, Ready, Evaluated}
+use Rattle.reference.specs.internal.Evaluating.{Members, SixSets, Restartable, Restarted, NodeMeaning, Ready, Evaluated}
 use Rattle.reference.proofs.words.Members.{members-as}
-use Rattle.reference.proofs.evaluation.Contexts.{bound-number, bound-next, bound-kind, bound-six, meaning-same, ready-later, ready-join}
+use Rattle.reference.proofs.evaluation.Contexts.{bound-number, bound-next, bound-one, bound-six, restartable, meaning-same, ready-later, ready-join}
 use Rattle.reference.proofs.evaluation.Clauses.{At, Call, statesOf, kind-is, x-is, y-is, rule-kept, call}
 
 -- a round from below gives a larger word until nothing is new, a round from above a smaller one
@@ -70,6 +70,9 @@ module _ {s masks : List ℕ} {n : ℕ} {words₀ : List ℕ} {f : Fields} (at :
     pub binder-six : f .x < 6
     binder-six = omega (arith, x-is at, bound-six (at .pre .kept) n (at .pre .among) (omega (arith, kind-is at)) (omega (arith, kind-is at)))
 
+    pub restart-asked : (r : List ℕ) → r ≡ ruleBody s → (kind : ℕ) → 7 ≤ kind → kind < 9 → Restartable r (f .y) kind
+    restart-asked r rule kind low high = restartable (at .pre .kept) rule (f .y) kind (omega (arith, next-is, body .below)) low high
+
     -- the rounds as the loop knows them, by the number of the child
     pub going-start : Going s (f .y - 1) (f .x) words₀ words₀
     going-start = record { same = λ k l. refl; sets = at .pre .sets; ready = ready-later (at .pre .kept) (omega (arith, next-is)) (at .pre .ready) }
@@ -108,45 +111,50 @@ module _ {s masks : List ℕ} {n : ℕ} {words₀ : List ℕ} {f : Fields} (at :
 
         -- Another round: the set u for the node's variable, and o for those of the kind after it.
         module _ (u o kind : ℕ) (words₂ : List ℕ) (put : words₂ ≡ set words₁ (f .x) u) (r : List ℕ) (rule : r ≡ ruleBody s) (words₃ : List ℕ)
-            (re : Restarted r (f .x + 1) 6 kind o words₂ words₃) where
+            (re′ : Restarted r (f .y) (nodeCount r) kind o words₂ words₃) (low : 7 ≤ kind) (high : kind < 9) where
+          re : Restarted (ruleBody s) (f .y) (nodeCount (ruleBody s)) kind o words₂ words₃
+          re = subst (λ (x : List ℕ). Restarted x (f .y) (nodeCount x) kind o words₂ words₃) rule re′
+
+          -- a fixed point after the node has a later variable
+          later : (b : ℕ) → f .y ≤ b → b < nodeCount (ruleBody s) → 7 ≤ nodeKind (ruleBody s) b → nodeKind (ruleBody s) b < 9 → f .x < nodeX (ruleBody s) b
+          later b after l h′ g′ = omega (arith, number-next, bound-number (at .pre .kept) b l h′ g′, binders-rise (ruleBody s) (f .y) b after)
+
+          kept-to : (k : ℕ) → k < suc (f .x) → getD words₃ k 0 ≡ getD words₂ k 0
+          kept-to k l = re .same k (λ b a c q e. omega (arith, later b a c (omega arith) (omega arith)))
+
           pub own : getD words₃ (f .x) 0 ≡ u
           own =
-              re .same (f .x) (inl (omega arith)) ∙
+              kept-to (f .x) (omega arith) ∙
               (ap (λ (l : List ℕ). getD l (f .x) 0) put ∙ getD-set-same words₁ (f .x) u 0 (omega (arith, m .sets .six, binder-six)))
 
-          other : (k : ℕ) → (k ≡ f .x → ⊥) → (k < f .x + 1) ⊎ ((6 ≤ k) ⊎ (binderKind r k ≡ kind → ⊥)) → getD words₃ k 0 ≡ getD words₁ k 0
-          other k h c = re .same k c ∙ (ap (λ (l : List ℕ). getD l k 0) put ∙ getD-set-other words₁ (f .x) k u 0 h)
+          other : (k : ℕ) → (k ≡ f .x → ⊥) → getD words₂ k 0 ≡ getD words₁ k 0
+          other k h = ap (λ (l : List ℕ). getD l k 0) put ∙ getD-set-other words₁ (f .x) k u 0 h
 
           size : length words₂ ≡ 6
           size = ap length put ∙ simp length-set (m .sets .six)
 
           pub each : (k : ℕ) → ((k ≡ f .x) × (getD words₃ k 0 ≡ u)) ⊎ ((getD words₃ k 0 ≡ o) ⊎ (getD words₃ k 0 ≡ getD words₁ k 0))
-          each k = go (ℕ-discrete k (f .x)) (decLt k (f .x)) (decLt k 6) (ℕ-discrete (binderKind r k) kind)
+          each k = go (ℕ-discrete k (f .x)) (re .each k)
             where
-              go : Dec (k ≡ f .x) → Dec (k < f .x) → Dec (k < 6) → Dec (binderKind r k ≡ kind) → ((k ≡ f .x) × (getD words₃ k 0 ≡ u)) ⊎ ((getD words₃ k 0 ≡ o) ⊎ (getD words₃ k 0 ≡ getD words₁ k 0))
-              go (yes q) a b c = inl (q, ap (λ (j : ℕ). getD words₃ j 0) q ∙ own)
-              go (no q) (yes a) b c = inr (inr (other k q (inl (omega arith))))
-              go (no q) (no a) (no b) c = inr (inr (other k q (inr (inl (omega arith)))))
-              go (no q) (no a) (yes b) (no c) = inr (inr (other k q (inr (inr c))))
-              go (no q) (no a) (yes b) (yes c) = inr (inl (re .anew k (omega arith) b (omega (arith, size)) c))
+              go : Dec (k ≡ f .x) → (getD words₃ k 0 ≡ o) ⊎ (getD words₃ k 0 ≡ getD words₂ k 0) → ((k ≡ f .x) × (getD words₃ k 0 ≡ u)) ⊎ ((getD words₃ k 0 ≡ o) ⊎ (getD words₃ k 0 ≡ getD words₁ k 0))
+              go (yes q) c = inl (q, ap (λ (j : ℕ). getD words₃ j 0) q ∙ own)
+              go (no q) (inl c) = inr (inl c)
+              go (no q) (inr c) = inr (inr (c ∙ other k q))
 
-          -- a fixed point after the node has a later variable, of its own kind
+          -- a fixed point after the node, of another kind or of this one
           module _ (b : ℕ) (after : n < b) (l : b < nodeCount (ruleBody s)) (h′ : 7 ≤ nodeKind (ruleBody s) b) (g′ : nodeKind (ruleBody s) b < 9) where
-            later : f .x < nodeX (ruleBody s) b
-            later = omega (arith, number-next, ap (bindersBefore (ruleBody s)) next-is, bound-number (at .pre .kept) b l h′ g′, binders-rise (ruleBody s) (suc n) b after)
-
-            its-kind : binderKind r (nodeX (ruleBody s) b) ≡ nodeKind (ruleBody s) b
-            its-kind = ap (λ (x : List ℕ). binderKind x (nodeX (ruleBody s) b)) rule ∙ bound-kind (at .pre .kept) b l h′ g′
-
             pub stays : (nodeKind (ruleBody s) b ≡ kind → ⊥) → getD words₃ (nodeX (ruleBody s) b) 0 ≡ getD words₁ (nodeX (ruleBody s) b) 0
-            stays d = other (nodeX (ruleBody s) b) (λ q. omega (arith, later)) (inr (inr (λ q. d (sym its-kind ∙ q))))
+            stays d =
+                re .same (nodeX (ruleBody s) b) (λ c a k q e.
+                d (ap (nodeKind (ruleBody s)) (bound-one (at .pre .kept) b c l k h′ g′ (omega arith) (omega arith) (sym e)) ∙ q))
+                ∙ other (nodeX (ruleBody s) b) (λ q. omega (arith, later b (omega (arith, next-is)) l h′ g′))
 
             pub starts : nodeKind (ruleBody s) b ≡ kind → getD words₃ (nodeX (ruleBody s) b) 0 ≡ o
-            starts q = re .anew (nodeX (ruleBody s) b) (omega (arith, later)) (bound-six (at .pre .kept) b l h′ g′) (omega (arith, size, bound-six (at .pre .kept) b l h′ g′)) (its-kind ∙ q)
+            starts q = re .anew b (omega (arith, next-is)) l q (omega (arith, size, bound-six (at .pre .kept) b l h′ g′))
 
           -- the variables bound before the node
           before : (k : ℕ) → k < f .x → getD words₃ k 0 ≡ getD words k 0
-          before k l = other k (λ q. omega arith) (inl (omega arith)) ∙ kept k (omega arith)
+          before k l = kept-to k (omega arith) ∙ (other k (λ q. omega arith) ∙ kept k (omega arith))
 
           pub here : (t : ℕ) → t < statesOf s → NodeMeaning s n words t ↔ NodeMeaning s n words₃ t
           here = meaning-same (at .pre .kept) n (at .pre .among) words words₃ (λ k l. sym (before k (omega (arith, number-is))))

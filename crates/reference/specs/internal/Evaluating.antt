@@ -7,7 +7,7 @@ use mathlib.Core.Logic.{_⊎_}
 use lib.ListN.{length, getD}
 use Rattle.sheet.specs.Contents.{planBody, actionsBody, ruleBody}
 use Rattle.sheet.specs.Plan.{stateCount, actionCount, transitionCount, origin, label, target}
-use Rattle.sheet.specs.Rule.{nodeCount, nodeKind, nodeX, binderNode, bindersBefore}
+use Rattle.sheet.specs.Rule.{nodeCount, nodeKind, nodeX, bindersBefore}
 use Rattle.sheet.specs.WellFormed.{WellFormedSheet}
 use Rattle.calculus.specs.Meaning.{Holds}
 use Rattle.sheet.specs.TransitionSystem.{planOf}
@@ -45,15 +45,18 @@ pub record SixSets (S : ℕ) (words : List ℕ) : Type 0 where
   pub six : length words ≡ 6
   pub below : (X : ℕ) → getD words X 0 < 2 ^ S
 
--- the kind of the node that binds variable k
-abbrev pub binderKind : List ℕ → ℕ → ℕ
-binderKind r k = nodeKind r (binderNode r k)
+-- first is a node, and what a fixed point of the kind binds is one of six variables
+pub record Restartable (r : List ℕ) (first kind : ℕ) : Type 0 where
+  pub among : first < nodeCount r
+  pub six : (b : ℕ) → b < nodeCount r → nodeKind r b ≡ kind → nodeX r b < 6
 
--- the variables from first up to end that a fixed point of the kind binds have the set v, the others what they had
+-- the variables that fixed points of the kind bind at the nodes from first up to end have the set v, the others what they had
 pub record Restarted (r : List ℕ) (first end kind v : ℕ) (words words′ : List ℕ) : Type 0 where
   pub sized : length words′ ≡ length words
-  pub anew : (k : ℕ) → first ≤ k → k < end → k < length words → binderKind r k ≡ kind → getD words′ k 0 ≡ v
-  pub same : (k : ℕ) → (k < first) ⊎ ((end ≤ k) ⊎ (binderKind r k ≡ kind → ⊥)) → getD words′ k 0 ≡ getD words k 0
+  pub anew : (b : ℕ) → first ≤ b → b < end → nodeKind r b ≡ kind → nodeX r b < length words → getD words′ (nodeX r b) 0 ≡ v
+  pub same :
+      (k : ℕ) → ((b : ℕ) → first ≤ b → b < end → nodeKind r b ≡ kind → nodeX r b ≡ k → ⊥) → getD words′ k 0 ≡ getD words k 0
+  pub each : (k : ℕ) → (getD words′ k 0 ≡ v) ⊎ (getD words′ k 0 ≡ getD words k 0)
 
 -- the meaning of node n by Table 1
 abbrev pub NodeMeaning : List ℕ → ℕ → List ℕ → ℕ → Type 0

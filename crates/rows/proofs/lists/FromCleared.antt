@@ -7,8 +7,8 @@ use native.Mathlib.Omega.{arith}
 use lib.ListN.{length}
 use borrow.Author.Tests.{eq-eqb}
 use Rattle.rows.specs.Rows.{Row, value, need}
-use Rattle.rows.specs.Tables.{byteAt, empty, filled, byteOf, changed, among, fills, count, verdict, neededFor}
-use Rattle.rows.proofs.systems.Systems.{Each, queries, total, final, Solvable}
+use Rattle.rows.specs.Tables.{byteAt, empty, filled, byteOf, changed, among, fills, count, verdict}
+use Rattle.rows.proofs.systems.Systems.{Each, queries, total, final, neededFor, Solvable}
 use Rattle.rows.proofs.systems.Fuel.{each-map, value-agree, need-agree}
 use Rattle.rows.proofs.systems.Changed.{changed-empty, filled-byte}
 use Rattle.rows.proofs.tables.Among.{among-append, among-find}

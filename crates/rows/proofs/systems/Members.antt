@@ -1,9 +1,7 @@
--- What holds of each cell of a list, member by member, and of the cells looked at.
-use mathlib.Core.Bool.{Bool, true, false}
+-- What holds of each cell of a list, member by member, and members of two lists joined.
 use mathlib.Core.List.{List, [], _∷_, _++_, List·Memᴰ, List·Memᴰ·head, List·Memᴰ·tail, List·Memᴰ·not-nil, List·Memᴰ·cases-cons}
 use mathlib.Core.Logic.{_⊎_, inl, inr}
 use mathlib.Core.Path.{_≡_, refl, sym, subst}
-use Rattle.rows.specs.Rows.{Connective, decides, looked}
 use Rattle.rows.proofs.systems.Systems.{Each}
 
 pub each-at : {C : Type 0} (P : C → Type 0) (l : List C) → Each P l → (d : C) → List·Memᴰ d l → P d
@@ -18,7 +16,7 @@ pub all-each : {C : Type 0} (P : C → Type 0) (l : List C) → ((d : C) → Lis
 all-each P [] h = tt
 all-each P (x ∷ l) h = (h x (List·Memᴰ·head refl), all-each P l (λ d m. h d (List·Memᴰ·tail m)))
 
-mem-append : {C : Type 0} (l m : List C) (d : C) → List·Memᴰ d (l ++ m) → List·Memᴰ d l ⊎ List·Memᴰ d m
+pub mem-append : {C : Type 0} (l m : List C) (d : C) → List·Memᴰ d (l ++ m) → List·Memᴰ d l ⊎ List·Memᴰ d m
 mem-append [] m d n = inr n
 mem-append (x ∷ l) m d n = go (List·Memᴰ·cases-cons n) (mem-append l m d)
   where
@@ -30,20 +28,13 @@ mem-append (x ∷ l) m d n = go (List·Memᴰ·cases-cons n) (mem-append l m d)
         deeper (inl k) = inl (List·Memᴰ·tail k)
         deeper (inr k) = inr k
 
-module _ {C : Type 0} (k : Connective) (v : C → Bool) (n : C → List C) where
-  -- a cell needed for the entries looked at is needed for one of them
-  pub looked-mem : (l : List C) (d : C) → List·Memᴰ d (looked k v n l) → (e : C) × List·Memᴰ e l × List·Memᴰ d (n e)
-  unfolding looked
-  looked-mem [] d m = absurd (List·Memᴰ·not-nil m)
-  looked-mem (x ∷ l) d m = go (mem-append (n x) (elim (decides k (v x)) [ true ↦ [] | false ↦ looked k v n l ]) d m) (looked-mem l d)
-    where
-      later : (b : Bool) → List·Memᴰ d (elim b as (λ b. List C) [ true ↦ [] | false ↦ looked k v n l ]) → List·Memᴰ d (looked k v n l)
-      later true m = absurd (List·Memᴰ·not-nil m)
-      later false m = m
+pub append-left : {C : Type 0} (l m : List C) (d : C) → List·Memᴰ d l → List·Memᴰ d (l ++ m)
+append-left l m d (List·Memᴰ·head {xs = k} e) = List·Memᴰ·head e
+append-left l m d (List·Memᴰ·tail {xs = k} n) = List·Memᴰ·tail (append-left k m d n)
 
-      go : List·Memᴰ d (n x) ⊎ List·Memᴰ d (elim (decides k (v x)) as (λ b. List C) [ true ↦ [] | false ↦ looked k v n l ]) → (List·Memᴰ d (looked k v n l) → (e : C) × List·Memᴰ e l × List·Memᴰ d (n e)) → (e : C) × List·Memᴰ e (x ∷ l) × List·Memᴰ d (n e)
-      go (inl m) rest = (x, List·Memᴰ·head refl, m)
-      go (inr m) rest = let r = rest (later (decides k (v x)) m) in (r .0, List·Memᴰ·tail (r .1), r .2)
+pub append-right : {C : Type 0} (l m : List C) (d : C) → List·Memᴰ d m → List·Memᴰ d (l ++ m)
+append-right [] m d n = n
+append-right (x ∷ l) m d n = List·Memᴰ·tail (append-right l m d n)
 
 pub each-both : {C : Type 0} (P Q : C → Type 0) (l : List C) → Each P l → Each Q l → Each (λ d. P d × Q d) l
 each-both P Q [] x y = tt

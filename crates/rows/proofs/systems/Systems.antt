@@ -1,9 +1,10 @@
 -- What is asked of a system of rows and of the table of its cells, and lists of queries on it.
+use mathlib.Core.Bool.{Bool, false, _||_}
 use mathlib.Core.List.{List, [], _∷_}
 use mathlib.Core.Path.{_≡_}
 use Prim.Native.Nat.{ℕ, _+_, _<_}
-use Rattle.rows.specs.Rows.{Row}
-use Rattle.rows.specs.Tables.{Result, visits, table, query}
+use Rattle.rows.specs.Rows.{Row, need}
+use Rattle.rows.specs.Tables.{Result, visits, table, among, query}
 
 module _ {C : Type 0} where
   -- what holds of every cell of a list
@@ -44,3 +45,9 @@ total (r ∷ rs) = visits r + total rs
 unfoldable pub final : List ℕ → List Result → List ℕ
 final t [] = t
 final t (r ∷ rs) = final (table r) rs
+
+module _ {C : Type 0} (position : C → ℕ) (rows : C → Row C) (fuel : ℕ) where
+  -- the cell at position i is needed for one of the cells of a list, by the rows as written
+  unfoldable pub neededFor : List C → ℕ → Bool
+  neededFor [] i = false
+  neededFor (c ∷ cs) i = among position (need rows fuel c) i || neededFor cs i

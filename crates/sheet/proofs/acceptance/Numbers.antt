@@ -1,22 +1,25 @@
--- The numbers of refusals: none is 0, and those that the reader gives are up to 10.
+-- The refusals that the reader and the writer give: their numbers, of which none is 0, and their places. The statement is GivenRefusals of
+-- specs/GivenRefusals.antt.
 use Prim.Native.Nat.{ℕ, _<_, _≤_}
-use mathlib.Core.Path.{_≡_, subst}
-use mathlib.Core.Bool.{Bool, true, false}
+use mathlib.Core.Path.{_≡_, refl, subst}
 use mathlib.Core.List.{List}
+use mathlib.Core.Logic.{_⊎_, inl, inr, _≢_}
 use native.Mathlib.Omega.{arith}
-use lib.ListN.{length}
-use lib.Dec.{eqb, leb}
-use Rattle.sheet.specs.Contents.{headLength, headingRight, contentsRight, planBody, actionsBody, ruleBody}
-use Rattle.sheet.specs.Plan.{actionCount, transitionCount, planSized, lowestTransition}
-use Rattle.sheet.specs.Actions.{entryCount, actionsSized, lowestEntry}
-use Rattle.sheet.specs.Rule.{nodeCount, ruleSized, syntaxFault, lowestBinding}
-use Rattle.sheet.specs.Refusals.{numberOf, require, andThen}
-use Rattle.sheet.specs.Reading.{planCheck, actionsCheck, ruleCheck, bodiesCheck, sheetCheck}
+use Rattle.sheet.specs.Contents.{planBody, actionsBody, ruleBody}
+use Rattle.sheet.specs.Plan.{actionCount, transitionCount, transitionFaulty}
+use Rattle.sheet.specs.Actions.{entryCount, entryFaulty}
+use Rattle.sheet.specs.Rule.{nodeCount, bindingFaulty}
+use Rattle.sheet.specs.FirstFault.{RuleFault}
+use Rattle.sheet.specs.Refusals.{numberOf, placeOf}
+use Rattle.sheet.specs.Reading.{bodiesCheck, sheetCheck}
+use Rattle.sheet.specs.Writing.{writeCheck}
+use Rattle.sheet.specs.GivenRefusals.{Lowest, Placed, GivenRefusals}
+use Rattle.sheet.specs.RefusalOrder.{BodiesFault, SheetFault, WriteFault}
 use Rattle.sheet.specs.declared.Refusal.{Refusal}
 use Rattle.sheet.specs.declared.Refusal.the-variants.{TooShort, Heading, Contents, PlanSize, TransitionFault, ActionsSize, EntryFault, RuleSize}
 use Rattle.sheet.specs.declared.Refusal.the-variants.{SyntaxFault, BindingFault, NoSuchState, Loop, TooManyStates, TableShort, TableByte, OutputShort}
-use Rattle.sheet.specs.declared.Check.{Check}
-use Rattle.sheet.specs.declared.Check.the-variants.{Passed, Failed}
+use Rattle.sheet.specs.declared.Check.the-variants.{Failed}
+use Rattle.sheet.proofs.acceptance.Order.{Tells, bodies-range, bodies-tells, to-bodies, sheet-range, sheet-tells, to-inner, write-tells}
 
 pub refused-number : (x : Refusal) → 0 < numberOf x
 refused-number TooShort = omega arith
@@ -36,49 +39,86 @@ refused-number TableShort = omega arith
 refused-number TableByte = omega arith
 refused-number OutputShort = omega arith
 
--- the reader's refusals have numbers up to 10
-abbrev Low : Check → Type 0
-Low Passed = Unit {0}
-Low (Failed x) = numberOf x ≤ 10
+-- ---- the fault of a refusal
 
-low-then : (a b : Check) → Low a → Low b → Low (andThen a b)
-low-then Passed b h g = g
-low-then (Failed x) b h g = h
+module _ (s : List ℕ) {x : Refusal} (e : sheetCheck s ≡ Failed x) where
+  sheet-fault : SheetFault s (numberOf x) (placeOf x)
+  sheet-fault = subst (Tells (SheetFault s) 1 11) e (sheet-tells s) .2
 
-low-require : (kept : Bool) (x : Refusal) → numberOf x ≤ 10 → Low (require kept x)
-low-require true x h = tt
-low-require false x h = h
+  pub low-refusal : numberOf x ≤ 10
+  low-refusal = omega (arith, sheet-range s (numberOf x) (placeOf x) sheet-fault)
 
-bodies-low : (p a r : List ℕ) → Low (bodiesCheck p a r)
-unfolding bodiesCheck planCheck actionsCheck ruleCheck
-bodies-low p a r = low-then (planCheck p) _ plan (low-then (actionsCheck (actionCount p) a) _ actions rule)
-  where
-    plan : Low (planCheck p)
-    plan =
-        low-then (require (planSized p) PlanSize) _ (low-require (planSized p) PlanSize (omega arith))
-        (low-require (eqb (lowestTransition p) (transitionCount p)) (TransitionFault (lowestTransition p)) (omega arith))
+pub low-bodies : (p a r : List ℕ) {x : Refusal} → bodiesCheck p a r ≡ Failed x → numberOf x ≤ 10
+low-bodies p a r {x} e = let t = subst (Tells (BodiesFault p a r) 4 11) e (bodies-tells p a r) in omega (arith, t .1)
 
-    actions : Low (actionsCheck (actionCount p) a)
-    actions =
-        low-then (require (actionsSized a) ActionsSize) _ (low-require (actionsSized a) ActionsSize (omega arith))
-        (low-require (eqb (lowestEntry (actionCount p) a) (entryCount a)) (EntryFault (lowestEntry (actionCount p) a)) (omega arith))
+write-fault : (p a r : List ℕ) (room : ℕ) {x : Refusal} → writeCheck p a r room ≡ Failed x → WriteFault p a r room (numberOf x) (placeOf x)
+write-fault p a r room e = subst (Tells (WriteFault p a r room) 4 23) e (write-tells p a r room) .2
 
-    syntax : ℕ
-    syntax = syntaxFault (entryCount a) r
+-- ---- numbers
 
-    rule : Low (ruleCheck (entryCount a) r)
-    rule =
-        low-then (require (ruleSized r) RuleSize) _ (low-require (ruleSized r) RuleSize (omega arith))
-        (low-then (require (eqb syntax (nodeCount r)) (SyntaxFault (record { 0 = syntax }))) _
-        (low-require (eqb syntax (nodeCount r)) (SyntaxFault (record { 0 = syntax })) (omega arith))
-        (low-require (eqb (lowestBinding r) (nodeCount r)) (BindingFault (record { 0 = lowestBinding r })) (omega arith)))
+writer-number : (p a r : List ℕ) (room k m : ℕ) → WriteFault p a r room k m → ((4 ≤ k) × (k ≤ 10)) ⊎ (k ≡ 22)
+writer-number p a r room k m (WriteFault.bodies b) = let g = bodies-range p a r k m b in inl (g .0, omega arith)
+writer-number p a r room k m (WriteFault.output-short q) = inr refl
 
-sheet-low : (s : List ℕ) → Low (sheetCheck s)
-unfolding sheetCheck
-sheet-low s =
-    low-then (require (leb headLength (length s)) TooShort) _ (low-require (leb headLength (length s)) TooShort (omega arith))
-    (low-then (require (headingRight s) Heading) _ (low-require (headingRight s) Heading (omega arith))
-    (low-then (require (contentsRight s) Contents) _ (low-require (contentsRight s) Contents (omega arith)) (bodies-low (planBody s) (actionsBody s) (ruleBody s))))
+-- ---- places
 
-pub low-refusal : (s : List ℕ) {x : Refusal} → sheetCheck s ≡ Failed x → numberOf x ≤ 10
-low-refusal s e = subst Low e (sheet-low s)
+-- the number k is none of those that have a place
+abbrev Placeless : ℕ → Type 0
+Placeless k = (k ≢ 5) × (k ≢ 7) × (k ≢ 9) × (k ≢ 10)
+
+module _ (p a r : List ℕ) where
+  transition-of : {m : ℕ} → BodiesFault p a r 5 m → Lowest (transitionFaulty p) (transitionCount p) m
+  transition-of (BodiesFault.transition l) = l
+
+  entry-of : {m : ℕ} → BodiesFault p a r 7 m → Lowest (entryFaulty (actionCount p) a) (entryCount a) m
+  entry-of (BodiesFault.entry l) = l
+
+  node-of : {m : ℕ} → BodiesFault p a r 9 m → RuleFault (entryCount a) r m
+  node-of (BodiesFault.node f) = f
+
+  binding-of : {m : ℕ} → BodiesFault p a r 10 m → Lowest (bindingFaulty r) (nodeCount r) m
+  binding-of (BodiesFault.binding l) = l
+
+  no-place : (k m : ℕ) → BodiesFault p a r k m → Placeless k → m ≡ 0
+  no-place k m (BodiesFault.plan-size q) g = refl
+  no-place k m (BodiesFault.transition l) g = absurd (g .0 refl)
+  no-place k m (BodiesFault.actions-size q) g = refl
+  no-place k m (BodiesFault.entry l) g = absurd (g .1 refl)
+  no-place k m (BodiesFault.rule-size q) g = refl
+  no-place k m (BodiesFault.node f) g = absurd (g .2 refl)
+  no-place k m (BodiesFault.binding l) g = absurd (g .3 refl)
+
+  -- a refusal whose fault, from 4 to 10, is one of the bodies
+  placed : (x : Refusal) → (4 ≤ numberOf x → numberOf x ≤ 10 → BodiesFault p a r (numberOf x) (placeOf x)) → (Placeless (numberOf x) → placeOf x ≡ 0) → Placed p a r x
+  placed x fault none = record {
+    transition = λ q. transition-of (at 5 q (omega arith) (omega arith));
+    entry = λ q. entry-of (at 7 q (omega arith) (omega arith));
+    node = λ q. binding-of (at 10 q (omega arith) (omega arith));
+    in-preorder = λ q. node-of (at 9 q (omega arith) (omega arith));
+    others = λ five seven nine ten. none (five, seven, nine, ten);
+  }
+    where
+      at : (k : ℕ) → numberOf x ≡ k → 4 ≤ numberOf x → numberOf x ≤ 10 → BodiesFault p a r k (placeOf x)
+      at k q l h = subst (λ (j : ℕ). BodiesFault p a r j (placeOf x)) q (fault l h)
+
+sheet-placeless : (s : List ℕ) (k m : ℕ) → SheetFault s k m → Placeless k → m ≡ 0
+sheet-placeless s k m (SheetFault.short q) g = refl
+sheet-placeless s k m (SheetFault.heading q) g = refl
+sheet-placeless s k m (SheetFault.contents q) g = refl
+sheet-placeless s k m (SheetFault.bodies b) g = no-place (planBody s) (actionsBody s) (ruleBody s) k m b g
+
+write-placeless : (p a r : List ℕ) (room k m : ℕ) → WriteFault p a r room k m → Placeless k → m ≡ 0
+write-placeless p a r room k m (WriteFault.bodies b) g = no-place p a r k m b g
+write-placeless p a r room k m (WriteFault.output-short q) g = refl
+
+pub given-refusals : GivenRefusals
+given-refusals = record {
+  numbers = λ s x e. (refused-number x, low-refusal s e);
+  places = λ s x e.
+      let f = sheet-fault s e in
+      placed (planBody s) (actionsBody s) (ruleBody s) x (λ l h. to-bodies s (numberOf x) (placeOf x) l f) (sheet-placeless s (numberOf x) (placeOf x) f);
+  writer-numbers = λ p a r room x e. writer-number p a r room (numberOf x) (placeOf x) (write-fault p a r room e);
+  writer-places = λ p a r room x e.
+      let f = write-fault p a r room e in
+      placed p a r x (λ l h. to-inner p a r room (numberOf x) (placeOf x) (omega arith) f) (write-placeless p a r room (numberOf x) (placeOf x) f);
+}

@@ -15,6 +15,7 @@ use Rattle.sheet.specs.Actions.{entryCount}
 use Rattle.sheet.specs.Refusals.{require, andThen}
 use Rattle.sheet.specs.Reading.{planCheck, actionsCheck, ruleCheck, bodiesCheck, sheetCheck, bodiesOf, answerRead, readOf}
 use Rattle.sheet.specs.WellFormed.{WellFormedBodies, WellFormedSheet}
+use Rattle.sheet.specs.Acceptance.{AcceptedIff, BodiesAcceptedIff}
 use Rattle.sheet.specs.declared.Bodies.{Bodies}
 use Rattle.sheet.specs.declared.Refusal.the-variants.{TooShort, Heading, Contents}
 use Rattle.sheet.specs.declared.Check.{Check}
@@ -28,7 +29,7 @@ use Rattle.sheet.proofs.checks.Checks.{and-parts, and-parts₅, all, pa
 
 -- ---- three bodies
 
-pub bodies-iff : (p a r : List ℕ) → (bodiesCheck p a r ≡ Passed) ↔ WellFormedBodies p a r
+pub bodies-iff : BodiesAcceptedIff
 unfolding bodiesCheck
 bodies-iff p a r = (
   λ q.
@@ -157,8 +158,8 @@ module _ (s : List ℕ) where
       (then-passed heading (andThen contents bodies) (require-passed (headingRight s) Heading (heads k))
       (then-passed contents bodies (require-passed (contentsRight s) Contents (contains k)) (bodies-iff (planBody s) (actionsBody s) (ruleBody s) .1 (k .bodies-kept))))
 
-  pub accepted-iff : (sheetCheck s ≡ Passed) ↔ WellFormedSheet s
-  accepted-iff = (kept, passes)
+pub accepted-iff : AcceptedIff
+accepted-iff s = (kept s, passes s)
 
 answered : (b : Bodies) (c : Check) → (answerRead b c ≡ Accepted b) ↔ (c ≡ Passed)
 answered b Passed = (λ q. refl, λ q. refl)

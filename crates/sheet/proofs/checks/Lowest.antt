@@ -16,15 +16,15 @@ module _ (test : ℕ → Bool) where
   unfolding lowestFrom
   from-next count i e = rw e
 
-  pub lowest-start : (n : ℕ) → lowestFrom test (n - 0) 0 ≡ lowest test n
+  lowest-start : (n : ℕ) → lowestFrom test (n - 0) 0 ≡ lowest test n
   lowest-start n = rw sub-zero
 
-  pub lowest-here : (n i : ℕ) → i < n → test i ≡ true → lowestFrom test (n - i) i ≡ i
+  lowest-here : (n i : ℕ) → i < n → test i ≡ true → lowestFrom test (n - i) i ≡ i
   lowest-here n i h e =
       let s : n - i ≡ suc (n - (i + 1)) = omega arith in
       rw s (from-here (n - (i + 1)) i e)
 
-  pub lowest-next : (n i : ℕ) → i < n → test i ≡ false → lowestFrom test (n - i) i ≡ lowestFrom test (n - (i + 1)) (i + 1)
+  lowest-next : (n i : ℕ) → i < n → test i ≡ false → lowestFrom test (n - i) i ≡ lowestFrom test (n - (i + 1)) (i + 1)
   lowest-next n i h e =
       let s : n - i ≡ suc (n - (i + 1)) = omega arith in
       rw s (from-next (n - (i + 1)) i e)

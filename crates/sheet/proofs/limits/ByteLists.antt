@@ -6,9 +6,7 @@ use lib.ListN.{length}
 use Rattle.sheet.specs.Bytes.{byte}
 use Rattle.sheet.specs.Contents.{headLength}
 use Rattle.sheet.specs.Writing.{contentsEntry, head, sheetOf}
-
-pub record AllBytes (l : List ℕ) : Type 0 where
-  pub at : (k : ℕ) → byte l k < 256
+use Rattle.sheet.specs.RunningCalls.{AllBytes}
 
 pub bytes-nil : AllBytes []
 bytes-nil = record { at = λ k. omega arith }

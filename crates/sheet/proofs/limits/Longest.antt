@@ -1,4 +1,4 @@
--- A sheet of 6,455 bytes that is accepted: 128 states with 16 transitions each, 32 action entries, 64 nodes.
+-- A sheet of 6,455 bytes that is accepted: 128 states with 16 transitions each, 32 action entries, 64 nodes. With it, how long a sheet is.
 use Prim.Native.Nat.{ℕ, zero, suc, _+_, _*_, _/_, _%_, _<_, _≤_}
 use mathlib.Core.Path.{_≡_, refl, ap, subst, _∙_}
 use mathlib.Core.Bool.{Bool, true, false}
@@ -16,13 +16,15 @@ use Rattle.sheet.specs.Rule.{nodeCount, nodeKind, nodeX, nodeY}
 use Rattle.sheet.specs.Reading.{bodiesCheck}
 use Rattle.sheet.specs.Writing.{sheetOf}
 use Rattle.sheet.specs.WellFormed.{Before, WellFormedPlan, WellFormedEntry, WellFormedActions, Subtree, WellFormedRule}
+use Rattle.sheet.specs.RunningCalls.{AllBytes}
+use Rattle.sheet.specs.Lengths.{AcceptedOf, Lengths}
 use Rattle.sheet.specs.declared.Check.the-variants.{Passed}
 use Rattle.sheet.proofs.acceptance.Sheet.{bodies-iff}
 use Rattle.sheet.proofs.nodes.Binders.{binder-kind, binders-few}
-use Rattle.sheet.proofs.roundtrip.RoundTrip.{read-written, written-length}
+use Rattle.sheet.proofs.roundtrip.RoundTrip.{written-accepted, written-length}
 use Rattle.sheet.proofs.limits.ByteLists.{bytes-cons, written-bytes}
 use Rattle.sheet.proofs.limits.Triples.{triples, triples-length, triple-at, bytes-triples}
-use Rattle.sheet.proofs.limits.Lengths.{AcceptedOf}
+use Rattle.sheet.proofs.limits.Lengths.{accepted-lengths, smallest-accepted}
 
 -- transition i leads from state i / 16 by action i % 16 to state 0
 unfoldable pub longestPlan : List ℕ
@@ -188,19 +190,28 @@ longest-length =
     let r = rule-kept .exact in
     omega (arith, written-length longestPlan longestActions longestRule, plan-count, actions-count, rule-count)
 
-longest-bytes : (k : ℕ) → byte longestSheet k < 256
+longest-bytes : AllBytes longestSheet
 unfolding longestSheet longestPlan longestActions longestRule
 longest-bytes =
     written-bytes longestPlan longestActions longestRule
     (bytes-cons (omega arith) (bytes-cons (omega arith) (bytes-cons (omega arith) (bytes-cons (omega arith)
     (bytes-triples 2048 (λ i. i / 16) (λ i. i % 16) (λ i. 0) (λ i h. omega arith) (λ i h. omega arith) (λ i h. omega arith))))))
     (bytes-cons (omega arith) (bytes-triples 32 (λ i. 0) (λ i. 0) (λ i. 0) (λ i h. omega arith) (λ i h. omega arith) (λ i h. omega arith)))
-    (bytes-cons (omega arith) (bytes-triples 64 kindAt (λ i. 0) childAt (λ i h. omega (arith, kind-small i)) (λ i h. omega arith) child-small)) .at
+    (bytes-cons (omega arith) (bytes-triples 64 kindAt (λ i. 0) childAt (λ i h. omega (arith, kind-small i)) (λ i h. omega arith) child-small))
 
-pub longest-accepted : AcceptedOf 6455 longestSheet
+pub longest-accepted : AcceptedOf 6455
 unfolding longestSheet
 longest-accepted = record {
-  size = longest-length;
+  sheet = longestSheet;
   bytes = longest-bytes;
-  passed = read-written longestPlan longestActions longestRule checked .passed;
+  size = longest-length;
+  passed = written-accepted longestPlan longestActions longestRule checked;
+}
+
+pub lengths : Lengths
+lengths = record {
+  smallest-is = smallest-accepted;
+  none-smaller = λ s e. accepted-lengths s e .0;
+  longest-is = longest-accepted;
+  none-longer = λ s e. accepted-lengths s e .1;
 }

@@ -5,7 +5,8 @@ use mathlib.Core.List.{List, [], _∷_}
 use native.Mathlib.Omega.{arith}
 use lib.ListN.{length}
 use Rattle.sheet.specs.Bytes.{byte}
-use Rattle.sheet.proofs.limits.ByteLists.{AllBytes, bytes-nil, bytes-cons}
+use Rattle.sheet.specs.RunningCalls.{AllBytes}
+use Rattle.sheet.proofs.limits.ByteLists.{bytes-nil, bytes-cons}
 
 -- n triples, triple i being f i, g i, h i
 unfoldable pub triples : ℕ → (ℕ → ℕ) → (ℕ → ℕ) → (ℕ → ℕ) → List ℕ

@@ -22,7 +22,7 @@ child r c place q =
     let b = and-parts (eqb c place) (ltb place (nodeCount r)) q in
     (eqb-true c place (b .0), ltb-true place (nodeCount r) (b .1))
 
-is-child : (r : List ℕ) (c place : ℕ) → c ≡ place → place < nodeCount r → childIs r c place ≡ true
+pub is-child : (r : List ℕ) (c place : ℕ) → c ≡ place → place < nodeCount r → childIs r c place ≡ true
 is-child r c place q h = all (eqb c place) (ltb place (nodeCount r)) (eq-eqb c place q) (lt-ltb place (nodeCount r) h)
 
 ends-inj : {a b : ℕ} → Ends a ≡ Ends b → a ≡ b
@@ -40,11 +40,11 @@ seconded go r n e (Ends m) q =
     let c = child r (nodeY r n) m (p .0) in
     (m, refl, c .0, c .1, p .1)
 
-taken : (b : Bool) (x y : Extent) → b ≡ true → pick b x y ≡ x
+pub taken : (b : Bool) (x y : Extent) → b ≡ true → pick b x y ≡ x
 taken b x y q = rw q
 
 module _ (entries : ℕ) (r : List ℕ) where
-  extent-suc : (depth n : ℕ) (s : Shape) → shapeOf (nodeKind r n) ≡ s → extent (suc depth) entries r n ≡ course (extent depth entries r) entries r n s
+  pub extent-suc : (depth n : ℕ) (s : Shape) → shapeOf (nodeKind r n) ≡ s → extent (suc depth) entries r n ≡ course (extent depth entries r) entries r n s
   unfolding extent
   extent-suc depth n s q = rw q
 

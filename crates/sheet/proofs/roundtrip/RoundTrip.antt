@@ -11,6 +11,8 @@ use Rattle.sheet.specs.Contents.{headLength, planLength, actionsLength, 
 use Rattle.sheet.specs.Reading.{bodiesCheck, sheetCheck, readOf}
 use Rattle.sheet.specs.Writing.{head, sheetOf, sheetLength}
 use Rattle.sheet.specs.WellFormed.{WellFormedBodies, WellFormedSheet}
+use Rattle.sheet.specs.RunningCalls.{AllBytes}
+use Rattle.sheet.specs.RoundTrip.{bytesOf, spansOf}
 use Rattle.sheet.specs.declared.Check.the-variants.{Passed}
 use Rattle.sheet.specs.declared.Read.the-variants.{Accepted}
 use Rattle.sheet.proofs.acceptance.Sheet.{BodyLengths, body-lengths, bodies-iff, accepted-iff, read-accepts, plan-length, actions-length, rule-length}
@@ -19,22 +21,27 @@ use Rattle.sheet.proofs.acceptance.Sheet.{BodyLengths, body-lengths, bo
 two-bytes : (n : ℕ) → n < 65536 → n % 256 + 256 * (n / 256 % 256) ≡ n
 two-bytes n h = omega arith
 
--- reading what the writer wrote gives back the three bodies
-pub record ReadBack (p a r : List ℕ) : Type 0 where
-  pub passed : sheetCheck (sheetOf p a r) ≡ Passed
-  pub plan-is : planBody (sheetOf p a r) ≡ p
-  pub actions-are : actionsBody (sheetOf p a r) ≡ a
-  pub rule-is : ruleBody (sheetOf p a r) ≡ r
-  pub length-is : length (sheetOf p a r) ≡ sheetLength p a r
-  pub read-is : readOf (sheetOf p a r) ≡ Accepted (record {
-    plan = record { offset = 17; length = length p };
-    actions = record { offset = 17 + length p; length = length a };
-    rule = record { offset = 17 + length p + length a; length = length r };
-  })
+-- where the three bodies lie in the sheet that the writer makes of them, and that they stand there
+module _ (p a r : List ℕ) where
+  pub written-length : length (sheetOf p a r) ≡ sheetLength p a r
+  unfolding sheetOf
+  written-length = simp length-append (omega arith)
 
-pub written-length : (p a r : List ℕ) → length (sheetOf p a r) ≡ sheetLength p a r
-unfolding sheetOf
-written-length p a r = simp length-append (omega arith)
+  pub plan-there : bytesOf (sheetOf p a r) (spansOf p a r .plan) ≡ p
+  unfolding sheetOf
+  plan-there = take-at p (a ++ r) (length p) refl
+
+  after-plan : drop (headLength + length p) (sheetOf p a r) ≡ a ++ r
+  unfolding sheetOf
+  after-plan = sym (drop-drop (length p) headLength (sheetOf p a r)) ∙ drop-at p (a ++ r) (length p) refl
+
+  pub actions-there : bytesOf (sheetOf p a r) (spansOf p a r .actions) ≡ a
+  actions-there = ap (take (length a)) after-plan ∙ take-at a r (length a) refl
+
+  pub rule-there : bytesOf (sheetOf p a r) (spansOf p a r .rule) ≡ r
+  rule-there =
+      ap (take (length r)) (sym (drop-drop (length a) (headLength + length p) (sheetOf p a r)) ∙ ap (drop (length a)) after-plan ∙ drop-at a r (length a) refl) ∙
+      take-length r
 
 module _ (p a r : List ℕ) (k : WellFormedBodies p a r) where
   short : BodyLengths p a r
@@ -55,24 +62,14 @@ module _ (p a r : List ℕ) (k : WellFormedBodies p a r) where
   unfolding sheetOf
   rule-stated = two-bytes (length r) (omega (arith, short))
 
-  after-plan : drop (headLength + length p) s ≡ a ++ r
-  unfolding sheetOf
-  after-plan = sym (drop-drop (length p) headLength s) ∙ drop-at p (a ++ r) (length p) refl
-
   plan-back : planBody s ≡ p
-  unfolding sheetOf
-  plan-back = ap (slice s headLength) plan-stated ∙ take-at p (a ++ r) (length p) refl
+  plan-back = ap (slice s headLength) plan-stated ∙ plan-there p a r
 
   actions-back : actionsBody s ≡ a
-  actions-back =
-      (λ i. take (actions-stated i) (drop (headLength + plan-stated i) s)) ∙
-      ap (take (length a)) after-plan ∙ take-at a r (length a) refl
+  actions-back = (λ i. slice s (headLength + plan-stated i) (actions-stated i)) ∙ actions-there p a r
 
   rule-back : ruleBody s ≡ r
-  rule-back =
-      (λ i. take (rule-stated i) (drop (headLength + plan-stated i + actions-stated i) s)) ∙
-      ap (take (length r)) (sym (drop-drop (length a) (headLength + length p) s) ∙ ap (drop (length a)) after-plan ∙ drop-at a r (length a) refl) ∙
-      take-length r
+  rule-back = (λ i. slice s (headLength + plan-stated i + actions-stated i) (rule-stated i)) ∙ rule-there p a r
 
   kept : WellFormedSheet s
   unfolding sheetOf
@@ -91,23 +88,19 @@ module _ (p a r : List ℕ) (k : WellFormedBodies p a r) where
         bodies-kept = subst₃ WellFormedBodies (sym plan-back) (sym actions-back) (sym rule-back) k;
       }
 
-pub read-written : (p a r : List ℕ) → bodiesCheck p a r ≡ Passed → ReadBack p a r
-read-written p a r q =
+-- the sheet of accepted bodies is accepted, and the reader gives their offsets and lengths
+pub written-accepted : (p a r : List ℕ) → bodiesCheck p a r ≡ Passed → sheetCheck (sheetOf p a r) ≡ Passed
+written-accepted p a r q = accepted-iff (sheetOf p a r) .1 (kept p a r (bodies-iff p a r .0 q))
+
+pub written-answer : (p a r : List ℕ) → bodiesCheck p a r ≡ Passed → readOf (sheetOf p a r) ≡ Accepted (spansOf p a r)
+written-answer p a r q =
     let k = bodies-iff p a r .0 q in
-    let b = kept p a r k in
-    record {
-      passed = accepted-iff (sheetOf p a r) .1 b;
-      plan-is = plan-back p a r k;
-      actions-are = actions-back p a r k;
-      rule-is = rule-back p a r k;
-      length-is = written-length p a r;
-      read-is = read-accepts (sheetOf p a r) .1 b ∙
-          (λ i. Accepted (record {
-            plan = record { offset = 17; length = plan-stated p a r k i };
-            actions = record { offset = 17 + plan-stated p a r k i; length = actions-stated p a r k i };
-            rule = record { offset = 17 + plan-stated p a r k i + actions-stated p a r k i; length = rule-stated p a r k i };
-          }));
-    }
+    read-accepts (sheetOf p a r) .1 (kept p a r k) ∙
+    (λ i. Accepted (record {
+      plan = record { offset = 17; length = plan-stated p a r k i };
+      actions = record { offset = 17 + plan-stated p a r k i; length = actions-stated p a r k i };
+      rule = record { offset = 17 + plan-stated p a r k i + actions-stated p a r k i; length = rule-stated p a r k i };
+    }))
 
 -- ---- the other way
 
@@ -122,12 +115,12 @@ firsts-are zero l h = refl
 firsts-are (suc n) [] h = absurd (not-suc-le-zero h)
 firsts-are (suc n) (x ∷ l) h = ap (λ (t : List ℕ). x ∷ t) (firsts-are n l (le-of-suc-le-suc h))
 
-module _ (s : List ℕ) (bytes : (k : ℕ) → byte s k < 256) (k : WellFormedSheet s) where
+module _ (s : List ℕ) (bytes : AllBytes s) (k : WellFormedSheet s) where
   low : (i n : ℕ) → word s i ≡ n → byte s i ≡ n % 256
-  low i n q = omega (arith, bytes i, bytes (i + 1))
+  low i n q = omega (arith, bytes .at i, bytes .at (i + 1))
 
   high : (i n : ℕ) → word s i ≡ n → byte s (i + 1) ≡ n / 256 % 256
-  high i n q = omega (arith, bytes i, bytes (i + 1))
+  high i n q = omega (arith, bytes .at i, bytes .at (i + 1))
 
   head-back : take headLength s ≡ head (planLength s) (actionsLength s) (ruleLength s)
   unfolding firsts
@@ -148,7 +141,7 @@ module _ (s : List ℕ) (bytes : (k : ℕ) → byte s k < 256) (k : WellFormedSh
       take-append-drop (planLength s) (drop headLength s)
 
 -- writing an accepted sheet's bodies gives back its bytes, byte for byte
-pub written-read : (s : List ℕ) → ((k : ℕ) → byte s k < 256) → sheetCheck s ≡ Passed → sheetOf (planBody s) (actionsBody s) (ruleBody s) ≡ s
+pub written-read : (s : List ℕ) → AllBytes s → sheetCheck s ≡ Passed → sheetOf (planBody s) (actionsBody s) (ruleBody s) ≡ s
 unfolding sheetOf
 written-read s bytes q =
     let k = accepted-iff s .0 q in

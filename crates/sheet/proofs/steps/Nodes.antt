@@ -10,7 +10,7 @@ use lib.Dec.{eqb, ltb, leb}
 use borrow.Author.Tests.{lt-ltb, le-ltb, eq-eqb, ne-eqb, le-leb, lt-leb}
 use Rattle.sheet.specs.internal.Counting.{BindersCounted}
 use Rattle.sheet.proofs.nodes.Shapes.{shape-leaf, shape-pair, shape-modal, shape-variable, shape-binder, shape-unknown, kinds}
-use Rattle.sheet.specs.Rule.{nodeKind, nodeX, nodeY, isBinder, bindersBefore, binderNode, endWithin, below, bindingFaulty, aboveAmong}
+use Rattle.sheet.specs.Rule.{nodeKind, nodeX, nodeY, isBinder, bindersBefore, binderNode, endWithin, below, bindingFaulty}
 
 pub counted-none : (r : List ℕ) → BindersCounted r 0 0
 unfolding bindersBefore
@@ -94,16 +94,3 @@ module _ (r : List ℕ) (n : ℕ) where
 
   pub binding-misnumbered : 7 ≤ nodeKind r n → nodeKind r n < 9 → (nodeX r n ≡ bindersBefore r n → ⊥) → true ≡ bindingFaulty r n
   binding-misnumbered h l e = sym (binding-binder h l ∙ rw (ne-eqb (nodeX r n) (bindersBefore r n) e))
-
-module _ (r : List ℕ) (n b : ℕ) where
-  pub above-none : 0 ≡ aboveAmong r n 0
-  unfolding aboveAmong
-  above-none = refl
-
-  pub above-more : (isBinder r b && below r b n) ≡ true → aboveAmong r n b + 1 ≡ aboveAmong r n (b + 1)
-  unfolding aboveAmong
-  above-more e = rw (add-one b, e)
-
-  pub above-same : (isBinder r b && below r b n) ≡ false → aboveAmong r n b ≡ aboveAmong r n (b + 1)
-  unfolding aboveAmong
-  above-same e = rw (add-one b, e) (omega arith)

@@ -8,7 +8,8 @@ use lib.Seq.{paste, take-at, drop-drop, take-length}
 use borrow.Rule.Slice.PartMut.{midOf, putMid, mid-len, post-is}
 use borrow.Author.Tests.{le-leb, lt-leb}
 use Rattle.sheet.specs.Reading.{bodiesCheck}
-use Rattle.sheet.specs.Writing.{head, sheetOf, sheetLength, writeCheck, writtenOf, reportedWrite, writeReportOf, outputAfter}
+use Rattle.sheet.specs.Writing.{head, sheetOf, sheetLength, writeCheck, writtenOf, reportedWrite, outputAfter}
+use Rattle.sheet.specs.RunningCalls.{Writes}
 use Rattle.sheet.specs.internal.Room.{Room}
 use Rattle.sheet.specs.declared.Refusal.{Refusal}
 use Rattle.sheet.specs.declared.Refusal.the-variants.{OutputShort}
@@ -41,12 +42,7 @@ next-copy done out src at e =
         (ap (drop (length src)) (lib.Seq.drop-at done (drop at out) at e) ∙ drop-drop (length src) at out)
 
 module _ (p a r out : List ℕ) where
-  -- the answer, what it reports and what the output then holds
-  abbrev Answers : Written → List ℕ → Type 0
-  Answers w now =
-      (w ≡ writtenOf p a r (length out)) × ((reportedWrite w ≡ writeReportOf p a r (length out)) × (now ≡ outputAfter p a r out))
-
-  answers : (w : Written) (now : List ℕ) → w ≡ writtenOf p a r (length out) → now ≡ outputAfter p a r out → Answers w now
+  answers : (w : Written) (now : List ℕ) → w ≡ writtenOf p a r (length out) → now ≡ outputAfter p a r out → Writes p a r out w now
   answers w now e f = (e, (ap reportedWrite e, f))
 
   pub copied : (one two three four : List ℕ) → one ≡ paste out 0 (head (length p) (length a) (length r)) 17 → two ≡ paste one 17 p (length p)
@@ -64,18 +60,18 @@ module _ (p a r out : List ℕ) where
       next-copy ((start ++ p) ++ a) out r (17 + length p + length a) (length-append (start ++ p) a ∙ ap (λ (k : ℕ). k + length a) (length-append start p))) in
       whole ∙ ap (λ (x : List ℕ). x ++ drop (sheetLength p a r) out) (append-assoc (start ++ p) a r ∙ append-assoc start p (a ++ r))
 
-  pub refused : (x : Refusal) → bodiesCheck p a r ≡ Failed x → Answers (Refused x) out
+  pub refused : (x : Refusal) → bodiesCheck p a r ≡ Failed x → Writes p a r out (Refused x) out
   unfolding writtenOf outputAfter writeCheck
   refused x e = answers (Refused x) out (rw e) (rw e)
 
   module _ (e : bodiesCheck p a r ≡ Passed) where
-    pub short : length out < sheetLength p a r → Answers (Refused OutputShort) out
+    pub short : length out < sheetLength p a r → Writes p a r out (Refused OutputShort) out
     unfolding writtenOf outputAfter writeCheck
     short h =
         let f = lt-leb (sheetLength p a r) (length out) h in
         answers (Refused OutputShort) out (rw (e, f)) (rw (e, f))
 
-    pub wrote : sheetLength p a r ≤ length out → (now : List ℕ) → now ≡ sheetOf p a r ++ drop (sheetLength p a r) out → Answers (Wrote (sheetLength p a r)) now
+    pub wrote : sheetLength p a r ≤ length out → (now : List ℕ) → now ≡ sheetOf p a r ++ drop (sheetLength p a r) out → Writes p a r out (Wrote (sheetLength p a r)) now
     unfolding writtenOf outputAfter writeCheck
     wrote h now f =
         let g = le-leb (sheetLength p a r) (length out) h in

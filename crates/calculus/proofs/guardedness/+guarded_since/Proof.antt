@@ -10,7 +10,7 @@ use borrow.Fn.PlainCycle.{Measures, is, falls, and}
 use Rattle.calculus.proofs.guardedness.guarded_since.Reads as guarded-since
 use Rattle.calculus.proofs.guardedness.guarded_since.Kinds as guarded-since-kinds
 use Rattle.calculus.proofs.guardedness.+guarded_since.Lts-guarded_since as guarded-since-lts
-use Rattle.calculus.proofs.guardedness.bound_before.Reads as bound-before-reads
+use Rattle.sheet.proofs.rule.bound_before.Reads as bound-before-reads
 use Rattle.sheet.proofs.rule.node.Reads as node-reads
 use Rattle.calculus.proofs.guardedness.+guarded_since.{statement}
 use Rattle.calculus.proofs.guardedness.+guarded_since.Tie.{close}

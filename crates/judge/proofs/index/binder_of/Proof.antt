@@ -20,7 +20,7 @@ number-requires c κs = search needs
 
 cast-t6 : tie.Need-cast-t6
 cast-t6 c = let e = c .number .ensures ∙ ap (λ (k : ℕ). getD (now (c .before .before .args .index)) (bindersAt + k) 0) (c .before .wide .ensures .0) in
-    omega (arith, e, c .before .before .pre .1)
+    omega (arith, e, c .before .before .pre .node-below, c .before .before .pre .few-nodes)
 
 returns : tie.Need-returns
 returns c = c .number .ensures ∙ ap (λ (k : ℕ). getD (now (c .before .before .args .index)) (bindersAt + k) 0) (c .before .wide .ensures .0)

@@ -7,11 +7,9 @@ use mathlib.Core.Path.{_≡_, sym, ap, subst, _∙_}
 use Prim.Native.Nat.{ℕ}
 use denote.Ref.{now}
 use borrow.Author.Tests.{not-true, not-false}
-use Rattle.sheet.specs.Rule.{nodeCount}
 use Rattle.graph.specs.LoopTest.{loopFree}
 use Rattle.graph.specs.Explored.{Explored}
-use Rattle.sheet.proofs.acceptance.Parts.{few-nodes}
-use Rattle.judge.proofs.steps.PrepareSteps.{searched, prepared}
+use Rattle.judge.proofs.steps.PrepareSteps.{binders-asked, searched, prepared}
 use Rattle.judge.proofs.preparing.prepare.Statement.{statement}
 use Rattle.judge.proofs.preparing.prepare.Tie as tie
 
@@ -27,7 +25,7 @@ rule-body-requires c κs = search needs
 put-binders-requires : tie.Need-put-binders-requires
 put-binders-requires c κs =
     let b = c .before .before .before .before .before .before in
-    (omega (arith, few-nodes (now (b .args .sheet)) (b .pre .0), ap nodeCount (c .before .rule-body .ensures)), c .before .before .put-head .ensures .size)
+    binders-asked (now (b .args .sheet)) (b .pre .0) (c .before .rule-body .ensures) (c .before .before .put-head .ensures)
 
 explore-requires : tie.Need-explore-requires
 explore-requires c κs = search needs

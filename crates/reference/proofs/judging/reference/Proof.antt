@@ -1,7 +1,7 @@
 -- `reference::judging::reference` meets its contract.
 use borrow.Author.Needs.{needs}
 use mathlib.Core.Path.{sym, _∙_}
-use Rattle.reference.proofs.answers.Answers.{answer-refused, answer-large, start, answer-word}
+use Rattle.reference.proofs.answers.Answers.{answer-refused, answer-large, start-asked, start, answer-word}
 use Rattle.reference.proofs.judging.reference.Statement.{statement}
 use Rattle.reference.proofs.judging.reference.Tie as tie
 
@@ -41,7 +41,9 @@ all-requires : tie.Need-all-requires
 all-requires c κs = search needs
 
 restart-requires : tie.Need-restart-requires
-restart-requires c κs = search needs
+restart-requires c κs =
+    let b = c .before .before .before .before .before .before .before .before .before in
+    start-asked _ (sym (b .before .before .check .ensures .0) ∙ b .enum-told .given .1) _ (c .before .before .rule-body .ensures)
 
 evaluate-requires : tie.Need-evaluate-requires
 evaluate-requires c κs =

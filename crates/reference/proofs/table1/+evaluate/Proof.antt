@@ -11,7 +11,7 @@ use Rattle.sheet.specs.Rule.{nodeCount}
 use Rattle.reference.specs.internal.Evaluating.{Evaluating}
 use Rattle.reference.proofs.evaluation.Clauses.{states-few, plan-asked, full-is, Call, At, at-node, call-first, call-second, call-modal}
 use Rattle.reference.proofs.evaluation.Clauses.{step-false, step-true, step-or, step-and, step-some, step-every, step-variable, step-unknown}
-use Rattle.reference.proofs.evaluation.Rounds.{Going, variable-six, binder-six, going-start, call-binder}
+use Rattle.reference.proofs.evaluation.Rounds.{Going, variable-six, binder-six, restart-asked, going-start, call-binder}
 use Rattle.reference.proofs.evaluation.Reached.{step-least, least-less, least-round, step-greatest, greatest-less, greatest-round}
 use borrow.Fn.Kinds.{In}
 use borrow.Fn.PlainCycle.{Measures, is, falls, and}
@@ -138,88 +138,76 @@ module _ (t : ℕ) where
   loop-holds : evaluate-lts.Need-loop-holds (claims t) (given t) evaluate.Post Inv-least μ-least Inv-greatest μ-greatest
   loop-holds c = going-start (here (c .before)) (omega arith) (omega arith)
 
-  set-of-requires-2 : evaluate-lts.Need-set-of-requires-2 (claims t) (given t) evaluate.Post Inv-least μ-least Inv-greatest μ-greatest
-  set-of-requires-2 c κs = binder-six (here (c .before .before .before)) (omega arith) (omega arith)
-
   evaluate-requires-7 : evaluate-lts.Need-evaluate-requires-7 (claims t) (given t) evaluate.Post Inv-least μ-least Inv-greatest μ-greatest
-  evaluate-requires-7 c κs = let b = c .before .before .before .before .before in called b (call-binder (here b) (omega arith) (omega arith) _ (c .before .before .before .loop .inv))
+  evaluate-requires-7 c κs = let b = c .before .before .before in called b (call-binder (here b) (omega arith) (omega arith) _ (c .before .loop .inv))
+
+  set-of-requires-2 : evaluate-lts.Need-set-of-requires-2 (claims t) (given t) evaluate.Post Inv-least μ-least Inv-greatest μ-greatest
+  set-of-requires-2 c κs = binder-six (here (c .before .before .before .before .before)) (omega arith) (omega arith)
 
   returns : evaluate-lts.Need-returns (claims t) (given t) evaluate.Post Inv-least μ-least Inv-greatest μ-greatest
   returns c =
       let b = c .before .before .before .before .before .before .before in
-      step-least (here b) (omega arith) (omega arith) _ (c .before .before .before .before .before .loop .inv) _
-      (c .before .before .before .set-of2 .ensures) _ _ (c .before .evaluate7 .ensures) (omega arith) (c .if1 .taken)
+      step-least (here b) (omega arith) (omega arith) _ (c .before .before .before .before .before .loop .inv) _ _ (c .before .before .before .evaluate7 .ensures) _
+      (c .before .set-of2 .ensures) (omega arith) (c .if1 .taken)
 
   put-requires : evaluate-lts.Need-put-requires (claims t) (given t) evaluate.Post Inv-least μ-least Inv-greatest μ-greatest
   put-requires c κs = binder-six (here (c .before .before .before .before .before .before .before .before)) (omega arith) (omega arith)
-
-  add-later : evaluate-lts.Need-add-later (claims t) (given t) evaluate.Post Inv-least μ-least Inv-greatest μ-greatest
-  add-later c =
-      let b = c .before .before .before .before .before .before .before .before .before in
-      let m = c .before .before .before .before .before .before .before .before .match .keys8 in
-      omega (arith, binder-six (here b) (omega (arith, m)) (omega (arith, m)))
 
   restart-requires : evaluate-lts.Need-restart-requires (claims t) (given t) evaluate.Post Inv-least μ-least Inv-greatest μ-greatest
   restart-requires c κs =
       let b = c .before .before .before .before .before .before .before .before .before .before in
       let m = c .before .before .before .before .before .before .before .before .before .match .keys8 in
-      omega (arith, binder-six (here b) (omega (arith, m)) (omega (arith, m)))
+      restart-asked (here b) (omega (arith, m)) (omega (arith, m)) _ (b .before .before .before .rule-body .ensures) 8 (omega arith) (omega arith)
 
   loop-less : evaluate-lts.Need-loop-less (claims t) (given t) evaluate.Post Inv-least μ-least Inv-greatest μ-greatest
   loop-less c =
       let b = c .before .before .before .before .before .before .before .before .before .before .before in
       let m = c .before .before .before .before .before .before .before .before .before .before .match .keys8 in
-      least-less (here b) (omega (arith, m)) (omega (arith, m)) _ (c .before .before .before .before .before .before .before .before .before .loop .inv) _
-      (c .before .before .before .before .before .before .before .set-of2 .ensures) _ _
-      (c .before .before .before .before .before .evaluate7 .ensures) (omega (arith, m)) _ _ (c .before .before .put .ensures) _
+      least-less (here b) (omega (arith, m)) (omega (arith, m)) _ (c .before .before .before .before .before .before .before .before .before .loop .inv)
+      _ _ (c .before .before .before .before .before .before .before .evaluate7 .ensures) _
+      (c .before .before .before .before .before .set-of2 .ensures) (omega (arith, m)) _ _ (c .before .before .put .ensures) _
       (b .before .before .before .rule-body .ensures) _ (c .restart .ensures) (c .before .before .before .before .if1 .left)
 
   loop-again : evaluate-lts.Need-loop-again (claims t) (given t) evaluate.Post Inv-least μ-least Inv-greatest μ-greatest
   loop-again c =
       let b = c .before .before .before .before .before .before .before .before .before .before .before in
       let m = c .before .before .before .before .before .before .before .before .before .before .match .keys8 in
-      least-round (here b) (omega (arith, m)) (omega (arith, m)) _ (c .before .before .before .before .before .before .before .before .before .loop .inv) _
-      (c .before .before .before .before .before .before .before .set-of2 .ensures) _ _
-      (c .before .before .before .before .before .evaluate7 .ensures) (omega (arith, m)) _ (full b)
+      least-round (here b) (omega (arith, m)) (omega (arith, m)) _ (c .before .before .before .before .before .before .before .before .before .loop .inv)
+      _ _ (c .before .before .before .before .before .before .before .evaluate7 .ensures) _
+      (c .before .before .before .before .before .set-of2 .ensures) (omega (arith, m)) _ (full b)
       _ (c .before .before .put .ensures) _ (b .before .before .before .rule-body .ensures) _ (c .restart .ensures)
 
   loop2-holds : evaluate-lts.Need-loop2-holds (claims t) (given t) evaluate.Post Inv-least μ-least Inv-greatest μ-greatest
   loop2-holds c = going-start (here (c .before)) (omega arith) (omega arith)
 
-  set-of-requires-3 : evaluate-lts.Need-set-of-requires-3 (claims t) (given t) evaluate.Post Inv-least μ-least Inv-greatest μ-greatest
-  set-of-requires-3 c κs = binder-six (here (c .before .before .before)) (omega arith) (omega arith)
-
   evaluate-requires-8 : evaluate-lts.Need-evaluate-requires-8 (claims t) (given t) evaluate.Post Inv-least μ-least Inv-greatest μ-greatest
-  evaluate-requires-8 c κs = let b = c .before .before .before .before .before in called b (call-binder (here b) (omega arith) (omega arith) _ (c .before .before .before .loop2 .inv))
+  evaluate-requires-8 c κs = let b = c .before .before .before in called b (call-binder (here b) (omega arith) (omega arith) _ (c .before .loop2 .inv))
+
+  set-of-requires-3 : evaluate-lts.Need-set-of-requires-3 (claims t) (given t) evaluate.Post Inv-least μ-least Inv-greatest μ-greatest
+  set-of-requires-3 c κs = binder-six (here (c .before .before .before .before .before)) (omega arith) (omega arith)
 
   returns-2 : evaluate-lts.Need-returns-2 (claims t) (given t) evaluate.Post Inv-least μ-least Inv-greatest μ-greatest
   returns-2 c =
       let b = c .before .before .before .before .before .before .before in
-      step-greatest (here b) (omega arith) (omega arith) _ (c .before .before .before .before .before .loop2 .inv) _
-      (c .before .before .before .set-of3 .ensures) _ _ (c .before .evaluate8 .ensures) (omega arith) (c .if2 .taken)
+      step-greatest (here b) (omega arith) (omega arith) _ (c .before .before .before .before .before .loop2 .inv) _ _ (c .before .before .before .evaluate8 .ensures) _
+      (c .before .set-of3 .ensures) (omega arith) (c .if2 .taken)
 
   put-requires-2 : evaluate-lts.Need-put-requires-2 (claims t) (given t) evaluate.Post Inv-least μ-least Inv-greatest μ-greatest
   put-requires-2 c κs = binder-six (here (c .before .before .before .before .before .before .before .before)) (omega arith) (omega arith)
-
-  add-later-2 : evaluate-lts.Need-add-later-2 (claims t) (given t) evaluate.Post Inv-least μ-least Inv-greatest μ-greatest
-  add-later-2 c =
-      let b = c .before .before .before .before .before .before .before .before .before in
-      let m = c .before .before .before .before .before .before .before .before .match .keys9 in
-      omega (arith, binder-six (here b) (omega (arith, m)) (omega (arith, m)))
 
   restart-requires-2 : evaluate-lts.Need-restart-requires-2 (claims t) (given t) evaluate.Post Inv-least μ-least Inv-greatest μ-greatest
   restart-requires-2 c κs =
       let b = c .before .before .before .before .before .before .before .before .before .before in
       let m = c .before .before .before .before .before .before .before .before .before .match .keys9 in
-      omega (arith, binder-six (here b) (omega (arith, m)) (omega (arith, m)))
+      restart-asked (here b) (omega (arith, m)) (omega (arith, m)) _ (b .before .before .before .rule-body .ensures) 7 (omega arith) (omega arith)
 
   loop2-less : evaluate-lts.Need-loop2-less (claims t) (given t) evaluate.Post Inv-least μ-least Inv-greatest μ-greatest
   loop2-less c =
       let b = c .before .before .before .before .before .before .before .before .before .before .before in
       let m = c .before .before .before .before .before .before .before .before .before .before .match .keys9 in
       greatest-less (here b) (omega (arith, m)) (omega (arith, m)) _ (c .before .before .before .before .before .before .before .before .before .loop2 .inv)
-      _ (c .before .before .before .before .before .before .before .set-of3 .ensures) _ _
-      (c .before .before .before .before .before .evaluate8 .ensures) (omega (arith, m)) _ (c .before .before .put2 .ensures) _
+      _ _ (c .before .before .before .before .before .before .before .evaluate8 .ensures) _
+      (c .before .before .before .before .before .set-of3 .ensures) (omega (arith, m)) _ (c .before .before .put2 .ensures) _
       (b .before .before .before .rule-body .ensures) _ (c .restart2 .ensures) (c .before .before .before .before .if2 .left)
 
   loop2-again : evaluate-lts.Need-loop2-again (claims t) (given t) evaluate.Post Inv-least μ-least Inv-greatest μ-greatest
@@ -227,8 +215,8 @@ module _ (t : ℕ) where
       let b = c .before .before .before .before .before .before .before .before .before .before .before in
       let m = c .before .before .before .before .before .before .before .before .before .before .match .keys9 in
       greatest-round (here b) (omega (arith, m)) (omega (arith, m)) _ (c .before .before .before .before .before .before .before .before .before .loop2 .inv)
-      _ (c .before .before .before .before .before .before .before .set-of3 .ensures) _ _
-      (c .before .before .before .before .before .evaluate8 .ensures) (omega (arith, m)) _ (c .before .before .put2 .ensures) _
+      _ _ (c .before .before .before .before .before .before .before .evaluate8 .ensures) _
+      (c .before .before .before .before .before .set-of3 .ensures) (omega (arith, m)) _ (c .before .before .put2 .ensures) _
       (b .before .before .before .rule-body .ensures) _ (c .restart2 .ensures)
 
   returns-3 : evaluate-lts.Need-returns-3 (claims t) (given t) evaluate.Post Inv-least μ-least Inv-greatest μ-greatest
@@ -286,20 +274,18 @@ pub +evaluate-spec : {M : Type 1} → statement M
     (some-requires-2 t)
     (set-of-requires t)
     (loop-holds t)
-    (set-of-requires-2 t)
     (evaluate-requires-7 t)
+    (set-of-requires-2 t)
     (returns t)
     (put-requires t)
-    (add-later t)
     (restart-requires t)
     (loop-less t)
     (loop-again t)
     (loop2-holds t)
-    (set-of-requires-3 t)
     (evaluate-requires-8 t)
+    (set-of-requires-3 t)
     (returns-2 t)
     (put-requires-2 t)
-    (add-later-2 t)
     (restart-requires-2 t)
     (loop2-less t)
     (loop2-again t)

@@ -1,9 +1,9 @@
 -- `sheet::reader::read` meets its contract.
 use borrow.Author.Needs.{needs}
+use native.Mathlib.Omega.{arith}
 use mathlib.Core.Path.{sym, ap, _∙_}
 use Rattle.sheet.specs.declared.Read.the-variants.{Accepted}
 use Rattle.sheet.specs.Reading.{reportedRead}
-use Rattle.sheet.proofs.checks.Checks.{with-report}
 use Rattle.sheet.proofs.steps.Sheet.{read-accepted, read-refused}
 use Rattle.sheet.proofs.reader.read.Statement.{statement}
 use Rattle.sheet.proofs.reader.read.Tie as tie
@@ -21,10 +21,16 @@ enum-known-checked : tie.Need-enum-known-checked
 enum-known-checked c = search needs
 
 returns : tie.Need-returns
-returns c = with-report reportedRead (ap Accepted (c .bodies-of .ensures) ∙ read-accepted _ (sym (c .before .before .before .check .ensures .0) ∙ c .before .enum-told .given .1))
+returns c =
+    let known = c .before .before .before .before .shared-slice-known .given in
+    let e = ap Accepted (c .bodies-of .ensures) ∙ read-accepted _ (sym (c .before .before .before .check .ensures .0) ∙ c .before .enum-told .given .1) in
+    (e, (ap reportedRead e, record { at = λ k. omega (arith, known k) }))
 
 returns-2 : tie.Need-returns-2
-returns-2 c = with-report reportedRead (read-refused _ _ (sym (c .before .before .before .check .ensures .0) ∙ c .before .checked .given .1))
+returns-2 c =
+    let known = c .before .before .before .before .shared-slice-known .given in
+    let e = read-refused _ _ (sym (c .before .before .before .check .ensures .0) ∙ c .before .checked .given .1) in
+    (e, (ap reportedRead e, record { at = λ k. omega (arith, known k) }))
 
 pub read-spec : {M : Type 1} → statement M
 read-spec =

@@ -15,18 +15,11 @@ returns c = binding-free _ _ (omega arith)
 x-at-requires : tie.Need-x-at-requires
 x-at-requires c κs = search needs
 
-cast-t9 : tie.Need-cast-t9
-cast-t9 c = search needs
-
-binder-node-requires : tie.Need-binder-node-requires
-binder-node-requires c κs = search needs
-
-is-below-requires : tie.Need-is-below-requires
-is-below-requires c κs = search needs
+below-binder-requires : tie.Need-below-binder-requires
+below-binder-requires c κs = search needs
 
 returns-2 : tie.Need-returns-2
-returns-2 c = rw (c .is-below .ensures, c .before .binder-node .ensures, c .before .before .before .x-at .ensures .0)
-    (sym (binding-variable _ _ (omega arith)))
+returns-2 c = rw (c .below-binder .ensures, c .before .before .x-at .ensures .0) (sym (binding-variable _ _ (omega arith)))
 
 returns-3 : tie.Need-returns-3
 returns-3 c = binding-unknown _ _ (omega arith)
@@ -44,9 +37,7 @@ binding-faulty-spec =
     kind-at-requires
     returns
     x-at-requires
-    cast-t9
-    binder-node-requires
-    is-below-requires
+    below-binder-requires
     returns-2
     returns-3
     returns-4

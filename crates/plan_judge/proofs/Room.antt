@@ -1,0 +1,63 @@
+-- The program's table has room for every sheet.
+use Prim.Native.Nat.{ℕ, _+_, _*_, _≤_}
+use mathlib.Core.Path.{_≡_, refl, sym, ap, _∙_}
+use mathlib.Core.List.{List}
+use native.Mathlib.Omega.{arith}
+use native.Mathlib.Nat.{mul-le-mul}
+use lib.ListN.{length}
+use borrow.Author.Tests.{le-leb}
+use Rattle.sheet.specs.Contents.{ruleBody}
+use Rattle.sheet.specs.Rule.{binderCount}
+use Rattle.sheet.specs.Reading.{sheetCheck}
+use Rattle.sheet.specs.declared.Refusal.{Refusal}
+use Rattle.sheet.specs.declared.Check.{Check}
+use Rattle.sheet.specs.declared.Check.the-variants.{Passed, Failed}
+use Rattle.sheet.proofs.acceptance.Parts.{bodies-kept}
+use Rattle.judge.specs.Cells.{cellBytes}
+use Rattle.judge.specs.Clearing.{clearCheck, clearedOf, tableCleared}
+use Rattle.judge.specs.Querying.{queriedOf}
+use Rattle.judge.specs.declared.Cleared.the-variants as cleared
+use Rattle.judge.specs.declared.Queried.{Queried}
+use Rattle.judge.specs.declared.Queried.the-variants as queried
+use Rattle.judge.proofs.lists.JustCleared.{cleared-length, cleared-below}
+use Rattle.plan_judge.specs.Program.{programOf}
+use Rattle.plan_judge.specs.Buffers.{mostStates, mostNodes, mostBinders, tableLength, answerAfter, clearThenQuery, RoomForEverySheet}
+use Rattle.plan_judge.proofs.Answers.{answers-start, program-refuses, program-answers}
+
+-- no sheet has more cells
+few-cells : (s : List ℕ) → sheetCheck s ≡ Passed → cellBytes s ≤ tableLength
+few-cells s accepted =
+    let k = bodies-kept s accepted in
+    let marks : binderCount (ruleBody s) + 1 ≤ mostBinders + 1 = omega (arith, k .rule-kept .few-binders) in
+    mul-le-mul {n₂ = mostStates * mostNodes} {m₂ = mostBinders + 1}
+    (mul-le-mul {n₂ = mostStates} {m₂ = mostNodes} (k .plan-kept .few-states) (k .rule-kept .few-nodes)) marks
+
+refused-alike : (s t : List ℕ) (x : Refusal) → sheetCheck s ≡ Failed x → clearThenQuery s t ≡ queried.Refused x
+unfolding clearedOf clearCheck
+refused-alike s t x e = rw e
+
+module _ (s t : List ℕ) (accepted : sheetCheck s ≡ Passed) (fits : cellBytes s ≤ length t) where
+  done : clearedOf s t ≡ cleared.Done
+  unfolding clearedOf clearCheck
+  done = rw (accepted, le-leb (cellBytes s) (length t) fits)
+
+  queried-alike : clearThenQuery s t ≡ programOf s
+  queried-alike =
+      ap (answerAfter (queriedOf s 0 (tableCleared s t))) done
+      ∙ (answers-start s accepted (tableCleared s t) (omega (arith, cleared-length s t accepted fits)) (cleared-below s t accepted fits)
+      ∙ sym (program-answers s accepted))
+
+pub room-for-every-sheet : RoomForEverySheet
+room-for-every-sheet s t long = go (sheetCheck s) refl
+  where
+    go : (c : Check) → sheetCheck s ≡ c → clearThenQuery s t ≡ programOf s
+    go Passed e = queried-alike s t e (omega (arith, few-cells s e))
+    go (Failed x) e = refused-alike s t x e ∙ sym (program-refuses s x e)
+
+-- the same, of calls that cleared t and left u
+module _ (s t : List ℕ) {u : List ℕ} (left : u ≡ tableCleared s t) (long : tableLength ≤ length t) where
+  pub program-queries : {q : Queried} → clearedOf s t ≡ cleared.Done → q ≡ queriedOf s 0 u → q ≡ programOf s
+  program-queries d e = e ∙ ap (queriedOf s 0) left ∙ sym (ap (answerAfter (queriedOf s 0 (tableCleared s t))) d) ∙ room-for-every-sheet s t long
+
+  pub program-stops : {x : Refusal} → clearedOf s t ≡ cleared.Refused x → queried.Refused x ≡ programOf s
+  program-stops d = sym (ap (answerAfter (queriedOf s 0 (tableCleared s t))) d) ∙ room-for-every-sheet s t long
