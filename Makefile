@@ -5,7 +5,7 @@ PROGRAM := target/bin/plan_judge
 STORED := target/stored
 DIFFERENTIAL := cd tests/differential && cargo run --release --offline --quiet --
 
-.PHONY: gate check examples trials store differential benchmark help
+.PHONY: gate check examples trials store runs differential benchmark help
 
 gate: ## prove all from nothing, try the must-fail edits, run the programs (rt ci)
 	.ci/run
@@ -26,6 +26,9 @@ trials: ## say whether the stored trials are what tests/cases.py makes
 
 store: ## write the stored trials anew
 	python3 tests/cases.py store crates/trials
+
+runs: ## compare what 20,000 patterns become with what they say of runs
+	python3 tests/cases.py runs 20000
 
 differential: ## compare the trial driver with a program in Rust on 40,000 requests
 	rt check trials

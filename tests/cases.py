@@ -1,19 +1,27 @@
 #!/usr/bin/env python3
 """The requests of the trial driver (docs/TRIALS.md) and what they must give, computed from
-docs/FORMAT.md and not by the crates.
+docs/FORMAT.md and docs/PATTERNS.md and not by the crates.
 
     cases.py store DIR             DIR/stdin and DIR/stdout: the vectors of tests/vectors, then the
                                    cases of tests/inputs
     cases.py large DIR             longer and random cases, for a run that is not stored
     cases.py check STDIN STDOUT    recomputes STDOUT from STDIN
+    cases.py runs COUNT            so many random patterns: what each becomes holds by Table 1 at
+                                   the states where its sentence about runs does
 
 A last word NUMBERS, as 12456, to `store` and `large` keeps these requests alone.
 """
+import random
 import sys
 from pathlib import Path
 
+from inputs.chance import random_sentence
+from inputs.pattern_parts import body_of, with_rule
 from inputs.streams import CUT, ENDING, large, stored
 from oracle.protocol import answered, answers
+from oracle.rows import Sheet
+from oracle.runs import sentence
+from oracle.table1 import meaning
 
 VECTORS = Path(__file__).parent / 'vectors'
 
@@ -47,9 +55,32 @@ def check(stdin, stdout):
     return 1
 
 
+def runs(count):
+    rng, states, true, loops, refused = random.Random(5), 0, 0, 0, 0
+    for i in range(count):
+        s, pattern = random_sentence(rng, (1, 2, 3, 4, 6, 9, 14))
+        body = body_of(s, pattern)
+        if not body:
+            refused += 1
+            continue
+        sheet = Sheet(with_rule(s, body))
+        found, said = meaning(sheet, 0, {}), sentence(s, pattern)
+        if found != said:
+            print('pattern', i, 'sheet', [*s], 'pattern', [*pattern], 'holds at', sorted(found),
+                  'and is said of', sorted(said))
+            return 1
+        states, true = states + sheet.states, true + len(said)
+        loops += any(map(sheet.loop_reachable, range(sheet.states)))
+    print('%d patterns, %d of them on plans with loops: %d states agree (%d true); %d refused' % (
+        count - refused, loops, states, true, refused))
+    return 0
+
+
 def main(args):
     if args[:1] == ['check'] and len(args) == 3:
         return check(*args[1:])
+    if args[:1] == ['runs'] and len(args) == 2:
+        return runs(int(args[1]))
     numbers = b''
     if len(args) > 2 and args[-1].isdigit():
         numbers = bytes(map(int, args.pop()))

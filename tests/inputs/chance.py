@@ -1,7 +1,9 @@
 """Bodies, sheets and requests made at random."""
 from inputs.parts import plan, rule, table
+from oracle.patterns import translate
 from oracle.protocol import (
-    guard_request, list_request, query_request, read_request, reference_request, write_request)
+    guard_request, list_request, pattern_request, query_request, read_request, reference_request,
+    write_request)
 from oracle.rows import Sheet
 from oracle.sheet import Refused, accepted, sheet_of
 
@@ -118,3 +120,40 @@ def random_list(rng):
     if accepted(p, a, r):
         s = sheet_of(p, a, r)
         yield list_request(s, Sheet(s).cells(), 3, [rng.randrange(states + 1) for _ in range(20)])
+
+
+def random_pattern(rng, entries, items):
+    """a pattern of about so many actions and operators, without its leading byte"""
+    if items < 2:
+        return bytes([0, rng.randrange(entries)])
+    if items == 2 or rng.random() < 0.35:
+        return b'\3' + random_pattern(rng, entries, items - 1)
+    first = rng.randrange(1, items - 1)
+    return (bytes([rng.choice((1, 2))]) + random_pattern(rng, entries, first)
+            + random_pattern(rng, entries, items - 1 - first))
+
+
+def random_sentence(rng, items):
+    """a sheet and a pattern, on a plan of few states where loops are likely and runs are long"""
+    states = rng.randrange(1, 6)
+    p = plan(states, 3, sorted({(rng.randrange(states), rng.randrange(3), rng.randrange(states))
+                                for _ in range(rng.randrange(3 * states + 1))}))
+    a = table((2, rng.randrange(3), 0), rng.choice(((1, 0, 0), (6, 1, 2))), (5, 0, 0),
+              (rng.choice((3, 4)), 1, 0))
+    s = sheet_of(p, a, random_rule(rng, rng.choice((1, 1, 2, 4, 10))))
+    return s, bytes([rng.randrange(2)]) + random_pattern(rng, 4, rng.choice(items))
+
+
+def random_translation(rng, items=(1, 2, 3, 4, 5, 6, 8, 12)):
+    """a pattern, whole or damaged, on a sheet that is nearly always whole"""
+    s, b = random_sentence(rng, items)
+    if rng.random() < 0.05:
+        s = damaged(rng, s)
+    if rng.random() < 0.25:
+        b = damaged(rng, b) + rng.choice((b'', b'', b'\0', b'\0\0'))
+    try:
+        size = len(translate(s, b, 65535))
+    except Refused:
+        size = rng.randrange(20)
+    yield pattern_request(s, b, max(0, size + rng.choice((0, 0, 0, 1, 5, -1, -20))),
+                          rng.randrange(256))

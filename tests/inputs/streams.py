@@ -2,24 +2,33 @@
 import random
 
 from inputs.bodies import reading_and_writing
-from inputs.chance import random_judging, random_list, random_reading
+from inputs.chance import random_judging, random_list, random_reading, random_translation
 from inputs.judging import judgings
 from inputs.loop_plans import loops_to_try
 from inputs.parts import (
     K, K_ACTIONS, K_PLAN, K_RULE, LONG, LONG_ACTIONS, LONG_PLAN, T, TRUE, deepest, plan, rule)
+from inputs.pattern_page import patterns_to_try
+from inputs.patterns import judged_translations, patterns
 from inputs.to_try import to_try
 from oracle.protocol import (
-    answers, guard_request, list_request, query_request, read_request, reference_request,
-    write_request)
+    answers, guard_request, list_request, pattern_request, query_request, read_request,
+    reference_request, write_request)
 from oracle.sheet import sheet_of, triples
+
+
+def expected(*given):
+    """requests, each of which has to give what starts with a given text"""
+    for request, start in given:
+        assert answers(request).decode().replace('\n', '|').startswith(start), start
+        yield request
 
 
 def stored():
     yield from reading_and_writing()
-    for request, start in (*to_try(), *loops_to_try()):
-        assert answers(request).decode().replace('\n', '|').startswith(start), start
-        yield request
+    yield from expected(*to_try(), *loops_to_try())
     yield from judgings()
+    yield from expected(*patterns_to_try(), *judged_translations())
+    yield from patterns()
 
 
 # an unknown request ends the run: what follows it gives nothing
@@ -59,6 +68,15 @@ def large():
                                 bytes(rng.choice((0, 0, 1, 2)) for _ in range(42)))
     for _ in range(200):
         yield from random_list(rng)
+    yield pattern_request(K, full, 65535, 203)
+    yield pattern_request(full, full, 65535, 204)
+    for pattern in (b'\0' + full[3:] + b'\0\0', b'\1' * 65535, b'\0' + b'\2' * 65534,
+                    b'\0' + b'\1' * 21844 + b'\0\0' * 21845,
+                    b'\1' + b'\1\2\0\0\0\1' * 10921 + b'\0\2',
+                    b'\1' + b'\1' * 9361 + b'\2\0\0\0\1' * 9362):
+        yield pattern_request(K, pattern, 200, 205)
+    for _ in range(4000):
+        yield from random_translation(rng, (1, 3, 6, 9, 14, 25, 60))
     # about the longest plan, with three states that lead to no loop
     transitions = [t for t in triples(LONG_PLAN, 4) if t[0] not in (50, 70, 100)]
     p = plan(128, 255, sorted([*transitions, (50, 0, 70), (70, 254, 100)]))

@@ -1,4 +1,5 @@
 """The trial driver's protocol (docs/TRIALS.md): requests as bytes, and the lines they give."""
+from oracle.patterns import translate
 from oracle.rows import clear, query
 from oracle.sheet import Refused, read_sheet, two, word, write_sheet
 from oracle.table1 import guarded, reference
@@ -32,6 +33,10 @@ def write_request(p, a, r, size, fill):
     return b'\x06' + blob_of(p) + blob_of(a) + blob_of(r) + two(size) + bytes([fill])
 
 
+def pattern_request(s, pattern, size, fill):
+    return b'\x07' + blob_of(s) + blob_of(pattern) + two(size) + bytes([fill])
+
+
 def yes(b):
     return 'true' if b else 'false'
 
@@ -59,10 +64,9 @@ def asked(sheet, state, tab):
     return reported('query', lambda: judged(sheet, state, tab), 'false', 0)
 
 
-def written(bodies, out):
-    sheet = write_sheet(*bodies, len(out))
-    out[:len(sheet)] = sheet
-    return [len(sheet)]
+def written(made, out):
+    out[:len(made)] = made
+    return [len(made)]
 
 
 class Cut(Exception):
@@ -122,11 +126,18 @@ def answer_query(stream):
 
 def answer_write(stream):
     bodies, out = [stream.blob() for _ in range(3)], stream.buffer()
-    return reported('write', lambda: written(bodies, out), 0) + 'out %s\n' % out.hex()
+    text = reported('write', lambda: written(write_sheet(*bodies, len(out)), out), 0)
+    return text + 'out %s\n' % out.hex()
+
+
+def answer_pattern(stream):
+    sheet, pattern, out = stream.blob(), stream.blob(), stream.buffer()
+    text = reported('pattern', lambda: written(translate(sheet, pattern, len(out)), out), 0)
+    return text + 'out %s\n' % out.hex()
 
 
 ANSWERS = {1: answer_read, 2: answer_guard, 3: answer_reference, 4: answer_list, 5: answer_query,
-           6: answer_write}
+           6: answer_write, 7: answer_pattern}
 
 
 def answered(given):

@@ -1,5 +1,6 @@
 pub mod table1
 pub mod decoding
+pub mod trees
 pub mod masks
 pub mod exchange
 pub mod definition2

@@ -4,6 +4,7 @@ pub mod Modal
 pub mod Monotone
 pub mod Iterates
 pub mod Decide
+pub mod Induction
 pub mod Locality
 pub mod Unfolding
 pub mod Ranges

@@ -9,6 +9,7 @@ pub mod Definition2
 -- sheets in the terms of Table 1
 pub mod Decode
 pub mod DecodedKinds
+pub mod Trees
 pub mod Verdict
 pub mod KindMap
 pub mod Exchange

@@ -3,6 +3,7 @@ mod guard;
 mod input;
 mod list;
 mod output;
+mod pattern;
 mod query;
 mod read;
 mod refer;
@@ -21,6 +22,7 @@ fn answer(number: u8, first: &mut Buffer, second: &mut Buffer, third: &mut Buffe
         4 => list::answer(first, second, third),
         5 => query::answer(first, second),
         6 => write::answer(first, second, third),
+        7 => pattern::answer(first, second, third),
         _ => false,
     }
 }

@@ -3,6 +3,8 @@
 use crate::compare::drive;
 use crate::gen::{self, Loops, Parts, Rng, Size};
 use crate::oracle;
+use crate::pattern_gen;
+use crate::patterns;
 use crate::protocol::Request;
 use std::fmt::Write as _;
 use std::path::{Path, PathBuf};
@@ -71,6 +73,45 @@ fn sheets(n: usize, binders: usize, loops: bool) -> Vec<Vec<u8>> {
     all[45 - SHEETS / 2..45 + SHEETS / 2].iter().map(|v| v.1.clone()).collect()
 }
 
+/// Sheets of a size with a rule of n / 16 nodes, each with a pattern that makes n / 2 + 2 nodes (64 at most) and so many binders of it.
+fn translations(n: usize, binders: usize) -> Vec<(Vec<u8>, Vec<u8>)> {
+    let nodes = (n / 2 + 2).min(64) as u64;
+    let mut found = Vec::new();
+    let mut index = 0;
+    while found.len() < SHEETS {
+        let mut r = Rng::new(SEED, 1_000_000 + 1000 * n as u64 + index);
+        index += 1;
+        let z = Size {
+            states: n,
+            actions: 4,
+            transitions: 0,
+            entries: 8,
+            nodes: (n / 16).max(1),
+            binders: 0,
+            loops: Loops::Nowhere,
+            guarded: false,
+        };
+        let p: Parts = gen::valid(&mut r, z);
+        let sheet = Parts { transitions: plan(&mut r, n, false), ..p }.sheet();
+        let ok = oracle::read(&sheet).expect("a valid sheet").parts;
+        let items = r.range(2, n / 2);
+        let mut b = pattern_gen::pattern(&mut r, z.entries, items);
+        pattern_gen::pad(&mut r, &ok, &mut b, nodes, binders as u64);
+        let (_, read) = patterns::read(&b, z.entries).expect("a well-formed pattern");
+        // one that copies what follows it, where there is room for two copies
+        let made = pattern_gen::size(&read, (ok.node_count() as u64, 0));
+        if made == (nodes, binders as u64) && (pattern_gen::copies(&read) > 1 || n < 32) {
+            found.push((sheet, b));
+        }
+    }
+    found
+}
+
+fn translating(made: &[(Vec<u8>, Vec<u8>)], pattern: impl Fn(&[u8]) -> Vec<u8>) -> Vec<Request> {
+    // room for the longest rule body
+    made.iter().map(|(s, b)| Request::Pattern { sheet: s.clone(), pattern: pattern(b), out_len: 193, fill: 7 }).collect()
+}
+
 struct Program {
     path: String,
     args: Vec<String>,
@@ -125,7 +166,17 @@ struct Row {
     clear: bool,
 }
 
-const OPS: [&str; 5] = ["reading", "reference", "first query", "list of all states", "query of an end state"];
+const OPS: [&str; 7] = [
+    "reading",
+    "reference",
+    "first query",
+    "list of all states",
+    "query of an end state",
+    "translating a pattern",
+    "refusing a long pattern",
+];
+/// The request of each.
+const NUMBERS: [u8; 7] = [1, 3, 4, 4, 4, 7, 7];
 
 fn stream(requests: &[Request], times: usize) -> Vec<u8> {
     let mut one = Vec::new();
@@ -165,8 +216,8 @@ pub fn bench(trials: &str, numbers: &[u8], out: &str) -> i32 {
         p
     };
     // the kinds of request that the driver answers
-    let tried = [vec![1, 0, 0], vec![2, 0, 0], vec![3, 0, 0], vec![4, 0, 0, 0, 0, 0, 0, 0]];
-    let has = |k: u8| numbers.contains(&k) && drive(&trials, &tried[k as usize - 1], 20).is_ok_and(|o| !o.0.is_empty());
+    let tried = |k: u8| vec![&[k][..], &[0; 7][..if k < 4 { 2 } else { 7 }]].concat();
+    let has = |k: u8| numbers.contains(&k) && drive(&trials, &tried(k), 20).is_ok_and(|o| !o.0.is_empty());
 
     let empty = store("empty", &[]);
     let start: Vec<f64> = both.iter().map(|p| p.instructions(&empty, &dir).unwrap_or(f64::NAN)).collect();
@@ -182,7 +233,7 @@ pub fn bench(trials: &str, numbers: &[u8], out: &str) -> i32 {
     let mut rows: Vec<Row> = Vec::new();
     let mut missing = Vec::new();
     for (op, name) in OPS.iter().enumerate() {
-        if !has([1, 3, 4, 4, 4][op]) {
+        if !has(NUMBERS[op]) {
             missing.push(*name);
             continue;
         }
@@ -195,6 +246,12 @@ pub fn bench(trials: &str, numbers: &[u8], out: &str) -> i32 {
                 1 => {
                     let s = sheets(n, binders.min(2), true);
                     (s.into_iter().map(Request::Reference).collect(), vec![Request::Reference(vec![]); SHEETS])
+                }
+                5 | 6 => {
+                    let made = translations(n, binders);
+                    let long = [&[0][..], &vec![3; 500 * n - 3], &[0, 0]].concat();
+                    let whole = translating(&made, |b| if op == 5 { b.to_vec() } else { long.clone() });
+                    (whole, translating(&made, |_| vec![]))
                 }
                 _ => {
                     let s = sheets(n, binders, false);
@@ -331,15 +388,20 @@ fn page(rows: &[Row], missing: &[&str], start: &[f64], start_time: &[f64], each:
         on standard input and write the same lines; the command checks that they do. The driver is the
         compiled Rattle program. The Rust program is `differential serve`, the implementation that the
         differential tests compare with: linear reading, a successor index, one mask for each action
-        formula, the lent table as its memo; each call takes a sheet and reads it, as in the driver.",
+        formula, the lent table as its memo, a formula with shared parts for a pattern; each call takes a
+        sheet and reads it, as in the driver.",
     );
     o += &paragraph(
         "Sheets grow in every part: n states, about 16 n transitions of 4 actions, 8 action entries of any
         kind, n / 2 nodes, 1 to 6 binders (reference: at most 2 binders, some transitions back, and n up to
         64). Each figure is for one request, the mean over 4 sheets about the upper quarter, by the work
         they make, of 60 made at random. A query's figure is that of the request less that of the same
-        request with no query (clearing and writing out the table); the others are less that of the same
-        request with a sheet of no bytes. Instructions are those of `valgrind --tool=callgrind`; times are
+        request with no query (clearing and writing out the table); those of reading and reference are less
+        that of the same request with a sheet of no bytes. Patterns are translated on 4 sheets with a rule
+        of n / 16 nodes; they make n / 2 + 2 nodes, at most 64, and 1 to 6 binders. A long pattern has 500 n
+        bytes, an action any number of times, any number of times, and so on, and is refused with 31. The
+        figures of patterns are less that of the same request with a pattern of no bytes, for which the
+        sheet is read as well. Instructions are those of `valgrind --tool=callgrind`; times are
         the shortest of 9 runs, the programs taking turns, and \"in the noise\" stands where what is left
         after taking away is under 15% of what was measured.",
     );
@@ -398,10 +460,10 @@ fn page(rows: &[Row], missing: &[&str], start: &[f64], start_time: &[f64], each:
 }
 
 fn plot(rows: &[Row]) -> String {
-    const COLOURS: [&str; 5] = ["#0072b2", "#d55e00", "#009e73", "#cc79a7", "#e69f00"];
+    const COLOURS: [&str; 7] = ["#0072b2", "#d55e00", "#009e73", "#cc79a7", "#e69f00", "#56b4e9", "#777777"];
     let mut o = String::new();
-    o += "<svg xmlns=\"http://www.w3.org/2000/svg\" width=\"960\" height=\"490\" viewBox=\"0 0 960 490\" font-family=\"sans-serif\" font-size=\"13\">\n";
-    o += "<rect width=\"960\" height=\"490\" fill=\"#ffffff\"/>\n";
+    o += "<svg xmlns=\"http://www.w3.org/2000/svg\" width=\"960\" height=\"510\" viewBox=\"0 0 960 510\" font-family=\"sans-serif\" font-size=\"13\">\n";
+    o += "<rect width=\"960\" height=\"510\" fill=\"#ffffff\"/>\n";
     let good: Vec<&Row> = rows.iter().filter(|r| r.instructions.iter().all(|v| *v > 0.0)).collect();
     let x = |left: f64, n: usize| left + (n as f64 / 8.0).log2() * 92.0;
     // the left panel: instructions
@@ -450,7 +512,8 @@ fn plot(rows: &[Row]) -> String {
         }
         s
     };
-    let mut at = 70.0;
+    // the legend, in as many lines as it takes
+    let (mut at, mut down) = (70.0, 440.0);
     for op in 0..OPS.len() {
         let mine: Vec<&&Row> = good.iter().filter(|r| r.op == op).collect();
         if mine.is_empty() {
@@ -462,11 +525,15 @@ fn plot(rows: &[Row]) -> String {
         }
         let points: Vec<(f64, f64)> = mine.iter().map(|r| (x(560.0, r.size), z(r.instructions[0] / r.instructions[1]))).collect();
         o += &line(&points, COLOURS[op], "");
-        let _ = writeln!(o, "<line x1=\"{at}\" y1=\"440\" x2=\"{}\" y2=\"440\" stroke=\"{}\" stroke-width=\"3\"/>", at + 24.0, COLOURS[op]);
-        let _ = writeln!(o, "<text x=\"{}\" y=\"444\" fill=\"#222\">{}</text>", at + 30.0, OPS[op]);
-        at += 60.0 + 7.5 * OPS[op].len() as f64;
+        let wide = 60.0 + 7.5 * OPS[op].len() as f64;
+        if at + wide > 960.0 {
+            (at, down) = (70.0, down + 24.0);
+        }
+        let _ = writeln!(o, "<line x1=\"{at}\" y1=\"{down}\" x2=\"{}\" y2=\"{down}\" stroke=\"{}\" stroke-width=\"3\"/>", at + 24.0, COLOURS[op]);
+        let _ = writeln!(o, "<text x=\"{}\" y=\"{}\" fill=\"#222\">{}</text>", at + 30.0, down + 4.0, OPS[op]);
+        at += wide;
     }
-    o += "<text x=\"70\" y=\"470\" fill=\"#222\">solid: driver, dashed: Rust</text>\n";
+    let _ = writeln!(o, "<text x=\"70\" y=\"{}\" fill=\"#222\">solid: driver, dashed: Rust</text>", down + 30.0);
     o += "</svg>\n";
     o
 }

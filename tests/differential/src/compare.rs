@@ -2,6 +2,9 @@
 
 use crate::gen::{self, Parts, Rng};
 use crate::oracle;
+use crate::pattern_check;
+use crate::pattern_gen;
+use crate::patterns;
 use crate::protocol::{self, Request};
 use std::io::{Read, Write};
 use std::process::{Command, Stdio};
@@ -261,7 +264,7 @@ pub fn compare(trials: &str, seed: u64, count: u64, numbers: &[u8], shrinking: b
     println!("seed {seed}, {count} requests of the kinds {numbers:?}");
     let begun = Instant::now();
     let mut tally: std::collections::BTreeMap<(u8, String), u64> = Default::default();
-    let (mut turns, mut loops) = (Turns::default(), LoopTally::default());
+    let (mut turns, mut loops, mut made) = (Turns::default(), LoopTally::default(), pattern_check::Tally::default());
     let (mut done, mut differences, mut told) = (0u64, 0u64, 0);
     while done < count {
         let n = BATCH.min(count - done);
@@ -280,6 +283,7 @@ pub fn compare(trials: &str, seed: u64, count: u64, numbers: &[u8], shrinking: b
         let mut rest = &out[..];
         for (k, r) in batch.iter().enumerate() {
             turns.count(r);
+            made.count(r);
             let want = protocol::expected(r);
             let text = String::from_utf8_lossy(&want);
             loops.count(r, &text);
@@ -337,6 +341,9 @@ pub fn compare(trials: &str, seed: u64, count: u64, numbers: &[u8], shrinking: b
     println!("refusal numbers met (in a request's first line):{line}");
     println!("lists and queries on plans with a loop: {loops}");
     println!("{turns}");
+    if numbers.contains(&7) {
+        println!("{made}");
+    }
     println!("seed {seed}: {done} requests compared, {differences} differences, {:.1} s", begun.elapsed().as_secs_f64());
     i32::from(differences > 0)
 }
@@ -353,6 +360,9 @@ fn describe(trials: &str, r: &Request) {
         Request::Query { sheet, state, table } => println!("    sheet {sheet:?}\n    state {state}, table {table:?}"),
         Request::Write { bodies, out_len, fill } => {
             println!("    plan {:?}\n    actions {:?}\n    rule {:?}\n    output of {out_len} bytes {fill}", bodies[0], bodies[1], bodies[2])
+        }
+        Request::Pattern { sheet, pattern, out_len, fill } => {
+            println!("    sheet {sheet:?}\n    pattern {pattern:?}\n    output of {out_len} bytes {fill}")
         }
     }
     println!("    oracle {}", clip(&protocol::answers(&b)));
@@ -620,6 +630,30 @@ fn candidates(r: &Request) -> Vec<Request> {
             for l in [0, out_len / 2, out_len.saturating_sub(1)] {
                 if l < *out_len {
                     out.push(Request::Write { bodies: bodies.clone(), out_len: l, fill: *fill });
+                }
+            }
+            out
+        }
+        Request::Pattern { sheet, pattern, out_len, fill } => {
+            let length = |s: &[u8], b: &[u8]| {
+                oracle::read(s).ok().and_then(|s| patterns::body(&s.parts, b).ok()).map_or(0, |body| body.len())
+            };
+            let was = length(sheet, pattern);
+            let mut out = Vec::new();
+            let mut put = |sheet: &[u8], pattern: &[u8], out_len: u16| {
+                out.push(Request::Pattern { sheet: sheet.to_vec(), pattern: pattern.to_vec(), out_len, fill: *fill })
+            };
+            for b in pattern_gen::smaller(pattern).iter().chain(&smaller_bytes(pattern)) {
+                put(sheet, b, (*out_len as usize + length(sheet, b)).saturating_sub(was) as u16);
+                put(sheet, b, *out_len);
+            }
+            for s in smaller_sheets(sheet) {
+                put(&s, pattern, (*out_len as usize + length(&s, pattern)).saturating_sub(was) as u16);
+                put(&s, pattern, *out_len);
+            }
+            for l in [0, out_len / 2, out_len.saturating_sub(1)] {
+                if l < *out_len {
+                    put(sheet, pattern, l);
                 }
             }
             out

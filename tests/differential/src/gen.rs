@@ -1,6 +1,7 @@
 //! Requests made from a seed: request number i of a seed is always the same.
 
 use crate::oracle::{self, assemble};
+use crate::pattern_gen;
 use crate::protocol::Request;
 
 pub struct Rng(u64);
@@ -314,7 +315,7 @@ impl Rule<'_> {
     }
 }
 
-fn odd(r: &mut Rng, now: u8) -> u8 {
+pub fn odd(r: &mut Rng, now: u8) -> u8 {
     match r.below(6) {
         0 => now.wrapping_add(1),
         1 => now.wrapping_sub(1),
@@ -492,7 +493,7 @@ fn damage_parts(r: &mut Rng, p: &mut Parts) {
     }
 }
 
-fn noise(r: &mut Rng, n: usize) -> Vec<u8> {
+pub fn noise(r: &mut Rng, n: usize) -> Vec<u8> {
     let small = r.chance(50);
     (0..n).map(|_| if small { r.below(9) as u8 } else { r.byte() }).collect()
 }
@@ -795,7 +796,7 @@ pub fn turns(p: &oracle::Parts) -> usize {
 }
 
 /// A sheet; `whole` percent of them are left valid.
-fn sheet(r: &mut Rng, whole: usize) -> Vec<u8> {
+pub fn sheet(r: &mut Rng, whole: usize) -> Vec<u8> {
     if r.chance(1) {
         let (s, n) = (r.pick(&[3, 10, 64, 128]), r.pick(&[20, 40, 64]));
         let mut p = deep(r, s, n);
@@ -859,7 +860,7 @@ fn sheet(r: &mut Rng, whole: usize) -> Vec<u8> {
     }
 }
 
-fn buffer_len(r: &mut Rng, exact: usize) -> usize {
+pub fn buffer_len(r: &mut Rng, exact: usize) -> usize {
     let n = match r.below(20) {
         0..=10 => exact,
         11..=15 => exact + r.range(1, 20),
@@ -991,6 +992,7 @@ fn request(r: &mut Rng, numbers: &[u8]) -> Request {
             };
             Request::Query { sheet, state, table }
         }
+        7 => pattern_gen::request(r),
         _ => {
             let mut b = bodies(r);
             if r.chance(1) {

@@ -1,9 +1,12 @@
-//! Differential tests and a benchmark of the trial driver, against an implementation of documents 01 and 02 (a), (b) of its own.
+//! Differential tests and a benchmark of the trial driver, against an implementation of documents 01 and 02 (a), (b), (c) of its own.
 
 mod bench;
 mod compare;
 mod gen;
 mod oracle;
+mod pattern_check;
+mod pattern_gen;
+mod patterns;
 mod protocol;
 
 use std::io::{Read, Write};
@@ -11,10 +14,10 @@ use std::io::{Read, Write};
 const USAGE: &str = "usage:
   differential vectors DIR                  stored requests of DIR (NAME.stdin, NAME.stdout) against the oracle
   differential selfcheck [--seed N] [--count N]
-                                            the oracle's query against its own Table 1, on plans with loops and without
-  differential compare TRIALS [--seed N] [--count N] [--requests 1,2,3,4,5,6] [--no-shrink]
+                                            the oracle's query, and its translated patterns, against its own Table 1
+  differential compare TRIALS [--seed N] [--count N] [--requests 1,2,3,4,5,6,7] [--no-shrink]
                                             made requests, the trial driver against the oracle
-  differential bench TRIALS [--requests 1,2,3,4,5,6] [--out DIR]
+  differential bench TRIALS [--requests 1,2,3,4,5,6,7] [--out DIR]
                                             instructions and time, the trial driver against the oracle
   differential serve                        answers requests on standard input, as the trial driver does";
 
@@ -28,9 +31,9 @@ fn number(args: &[String], name: &str) -> Option<u64> {
 
 fn requests(args: &[String]) -> Vec<u8> {
     option(args, "--requests")
-        .unwrap_or_else(|| "1,2,3,4,5,6".into())
+        .unwrap_or_else(|| "1,2,3,4,5,6,7".into())
         .split(',')
-        .map(|v| v.parse().ok().filter(|n| (1..=6).contains(n)).unwrap_or_else(|| panic!("--requests: {v}")))
+        .map(|v| v.parse().ok().filter(|n| (1..=7).contains(n)).unwrap_or_else(|| panic!("--requests: {v}")))
         .collect()
 }
 
@@ -51,7 +54,12 @@ fn run(args: Vec<String>) -> i32 {
         (Some("serve"), None) => serve(),
         (Some("vectors"), Some(dir)) => compare::vectors(&dir),
         (Some("selfcheck"), None) => {
-            compare::selfcheck(number(&args, "--seed").unwrap_or_else(compare::clock), number(&args, "--count").unwrap_or(5000))
+            let seed = number(&args, "--seed").unwrap_or_else(compare::clock);
+            let count = number(&args, "--count").unwrap_or(5000);
+            match compare::selfcheck(seed, count) {
+                0 => pattern_check::selfcheck(seed, 4 * count),
+                code => code,
+            }
         }
         (Some("compare"), Some(trials)) => compare::compare(
             &trials,

@@ -247,7 +247,7 @@ pub fn masks(p: &Parts) -> Vec<Mask> {
 }
 
 #[inline]
-fn meets(m: &Mask, a: u8) -> bool {
+pub fn meets(m: &Mask, a: u8) -> bool {
     m[a as usize / 64] >> (a % 64) & 1 == 1
 }
 

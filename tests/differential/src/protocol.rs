@@ -1,6 +1,6 @@
 //! The trial driver's protocol (TRIALS.md): requests from bytes, and the lines that answer each.
 
-use crate::oracle;
+use crate::{oracle, patterns};
 use std::io::Write;
 
 #[derive(Clone, PartialEq, Eq, Debug)]
@@ -11,6 +11,7 @@ pub enum Request {
     List { sheet: Vec<u8>, table_len: u16, fill: u8, states: Vec<u8> },
     Query { sheet: Vec<u8>, state: u8, table: Vec<u8> },
     Write { bodies: [Vec<u8>; 3], out_len: u16, fill: u8 },
+    Pattern { sheet: Vec<u8>, pattern: Vec<u8>, out_len: u16, fill: u8 },
 }
 
 fn blob(out: &mut Vec<u8>, b: &[u8]) {
@@ -27,6 +28,7 @@ impl Request {
             Request::List { .. } => 4,
             Request::Query { .. } => 5,
             Request::Write { .. } => 6,
+            Request::Pattern { .. } => 7,
         }
     }
 
@@ -50,6 +52,12 @@ impl Request {
                 out.extend(out_len.to_le_bytes());
                 out.push(*fill);
             }
+            Request::Pattern { sheet, pattern, out_len, fill } => {
+                blob(out, sheet);
+                blob(out, pattern);
+                out.extend(out_len.to_le_bytes());
+                out.push(*fill);
+            }
         }
     }
 }
@@ -62,6 +70,7 @@ pub enum View<'a> {
     List { sheet: &'a [u8], table_len: usize, fill: u8, states: &'a [u8] },
     Query { sheet: &'a [u8], state: u8, table: &'a [u8] },
     Write { bodies: [&'a [u8]; 3], out_len: usize, fill: u8 },
+    Pattern { sheet: &'a [u8], pattern: &'a [u8], out_len: usize, fill: u8 },
 }
 
 pub struct Input<'a> {
@@ -100,6 +109,7 @@ impl<'a> Input<'a> {
                 out_len: self.word()?,
                 fill: self.byte()?,
             },
+            7 => View::Pattern { sheet: self.blob()?, pattern: self.blob()?, out_len: self.word()?, fill: self.byte()? },
             _ => return None,
         })
     }
@@ -164,6 +174,16 @@ pub fn answer(request: &View, out: &mut Vec<u8>) {
                 Err(r) => (r, 0),
             };
             let _ = writeln!(out, "write {n} {p} {len}");
+            hex("out", &buffer, out);
+            Ok(())
+        }
+        View::Pattern { sheet, pattern, out_len, fill } => {
+            let mut buffer = vec![*fill; *out_len];
+            let ((n, p), len) = match patterns::translate(sheet, pattern, &mut buffer) {
+                Ok(len) => ((0, 0), len),
+                Err(r) => (r, 0),
+            };
+            let _ = writeln!(out, "pattern {n} {p} {len}");
             hex("out", &buffer, out);
             Ok(())
         }

@@ -1,0 +1,5 @@
+pub mod Sentences
+pub mod Before
+pub mod Raised
+pub mod Meaning
+pub mod Paths

@@ -1,0 +1,15 @@
+pub mod Moving
+pub mod Parts
+pub mod SecondSteps
+pub mod Copying
+pub mod Patching
+pub mod Passes
+pub mod Copies
+pub mod Follow
+pub mod Growing
+pub mod PartSteps
+pub mod ChoiceSteps
+pub mod RepetitionSteps
+pub mod AfterSteps
+pub mod BodySteps
+pub mod CallSteps

@@ -1,0 +1,3 @@
+pub mod Raised
+pub mod WellFormed
+pub mod Sizes

@@ -1,0 +1,5 @@
+pub mod Passing
+pub mod SecondParts
+pub mod Nodes
+pub mod Putting
+pub mod Answering
