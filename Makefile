@@ -5,7 +5,7 @@ PROGRAM := target/bin/plan_judge
 STORED := target/stored
 DIFFERENTIAL := cd tests/differential && cargo run --release --offline --quiet --
 
-.PHONY: gate check examples trials store runs differential benchmark help
+.PHONY: gate check examples trials store runs differential memory benchmark help
 
 gate: ## prove all from nothing, try the must-fail edits, run the programs (rt ci)
 	.ci/run
@@ -35,6 +35,11 @@ differential: ## compare the trial driver with a program in Rust on 40,000 reque
 	$(DIFFERENTIAL) vectors ../vectors
 	$(DIFFERENTIAL) selfcheck
 	$(DIFFERENTIAL) compare ../../$(DRIVER) --count 40000
+
+memory: ## look for a table behind child_count, and count read-only data (BEFORE=REVISION: and before)
+	rt check
+	python3 tests/read_only.py function
+	python3 tests/read_only.py sizes $(BEFORE)
 
 benchmark: ## measure it against the Rust program and write docs/BENCHMARK.md
 	rt check trials

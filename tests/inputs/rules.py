@@ -1,5 +1,7 @@
-"""Rule bodies: nodes, preorder, missing and left-over nodes, binders and variables."""
+"""Rule bodies: nodes, preorder, missing and left-over nodes, binders and variables. How many
+children each kind of node has."""
 from inputs.parts import F, T, chain, rule
+from oracle.protocol import children_request
 
 
 def sizes():
@@ -128,3 +130,11 @@ def rules():
     yield from kinds()
     yield from preorder()
     yield from binding()
+
+
+def children_to_try():
+    """how many children a node of each kind has: F, T, or, and, some, every, variable, least,
+    greatest; a number over 8 is no kind"""
+    for kind, count in enumerate((0, 0, 2, 2, 1, 1, 0, 1, 1, 0)):
+        yield children_request(kind), 'children %d|' % count
+    yield children_request(255), 'children 0|'

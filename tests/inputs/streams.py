@@ -9,6 +9,7 @@ from inputs.parts import (
     K, K_ACTIONS, K_PLAN, K_RULE, LONG, LONG_ACTIONS, LONG_PLAN, T, TRUE, deepest, plan, rule)
 from inputs.pattern_page import patterns_to_try
 from inputs.patterns import judged_translations, patterns
+from inputs.rules import children_to_try
 from inputs.to_try import to_try
 from oracle.protocol import (
     answers, guard_request, list_request, pattern_request, query_request, read_request,
@@ -25,7 +26,7 @@ def expected(*given):
 
 def stored():
     yield from reading_and_writing()
-    yield from expected(*to_try(), *loops_to_try())
+    yield from expected(*children_to_try(), *to_try(), *loops_to_try())
     yield from judgings()
     yield from expected(*patterns_to_try(), *judged_translations())
     yield from patterns()

@@ -1,7 +1,7 @@
 """The trial driver's protocol (docs/TRIALS.md): requests as bytes, and the lines they give."""
 from oracle.patterns import translate
 from oracle.rows import clear, query
-from oracle.sheet import Refused, read_sheet, two, word, write_sheet
+from oracle.sheet import Refused, children, read_sheet, two, word, write_sheet
 from oracle.table1 import guarded, reference
 
 
@@ -35,6 +35,10 @@ def write_request(p, a, r, size, fill):
 
 def pattern_request(s, pattern, size, fill):
     return b'\x07' + blob_of(s) + blob_of(pattern) + two(size) + bytes([fill])
+
+
+def children_request(kind):
+    return bytes([8, kind])
 
 
 def yes(b):
@@ -136,8 +140,12 @@ def answer_pattern(stream):
     return text + 'out %s\n' % out.hex()
 
 
+def answer_children(stream):
+    return 'children %d\n' % children(stream.byte())
+
+
 ANSWERS = {1: answer_read, 2: answer_guard, 3: answer_reference, 4: answer_list, 5: answer_query,
-           6: answer_write, 7: answer_pattern}
+           6: answer_write, 7: answer_pattern, 8: answer_children}
 
 
 def answered(given):

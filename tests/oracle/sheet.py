@@ -52,6 +52,11 @@ def check_actions(b, a):
     return b[0]
 
 
+def children(kind):
+    """how many children a node of the kind has: a number that is no kind has none"""
+    return {2: 2, 3: 2, 4: 1, 5: 1, 7: 1, 8: 1}.get(kind, 0)
+
+
 def check_syntax(nodes, count):
     """9; the parents, None for the root. The work still to do is kept on a stack: a node to visit,
     or the second child of a pair to look for."""
@@ -69,22 +74,23 @@ def check_syntax(nodes, count):
         parents[n] = parent
         kind, x, y = nodes[n]
         if kind in (0, 1):
-            right, children = x == 0 and y == 0, 0
+            right = x == 0 and y == 0
         elif kind in (2, 3):
-            right, children = x == at, 2
+            right = x == at
         elif kind in (4, 5):
-            right, children = x < count and y == at, 1
+            right = x < count and y == at
         elif kind == 6:
-            right, children = y == 0, 0
+            right = y == 0
         elif kind in (7, 8):
-            right, children = y == at, 1
+            right = y == at
         else:
-            right, children = False, 0
-        if not right or (children > 0 and at >= len(nodes)):
+            right = False
+        arity = children(kind)
+        if not right or (arity > 0 and at >= len(nodes)):
             raise Refused(9, n)
-        if children == 2:
+        if arity == 2:
             work.append(('second', n))
-        if children > 0:
+        if arity > 0:
             work.append(('visit', n))
     if at < len(nodes):
         raise Refused(9, at)

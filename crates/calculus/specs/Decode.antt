@@ -7,6 +7,8 @@ use lib.Dec.{ltb, eqb}
 use Rattle.sheet.specs.Bytes.{pick}
 use Rattle.sheet.specs.Actions.{entryKind, entryX, entryY}
 use Rattle.sheet.specs.Rule.{nodeKind, nodeX, nodeY}
+use Rattle.sheet.specs.Kinds.{NodeSort, nodeSort, unknownNode}
+use Rattle.sheet.specs.Kinds.{falseNode, trueNode, orNode, andNode, someNode, everyNode, variableNode, leastNode, greatestNode}
 use Rattle.calculus.specs.Formulas.{ActionFormula, noAction, anyAction, oneAction, orAction, andAction, notAction, between}
 use Rattle.calculus.specs.Formulas.{Formula, falseFormula, trueFormula, disj, conj, some, every, var, least, greatest}
 
@@ -52,22 +54,6 @@ abbrev pub actionFormula : List ℕ → ℕ → ActionFormula
 actionFormula a e = actionWithin (suc e) a e
 
 -- ---- document 01, "Kind 3, rule"
-
--- "0 F, 1 T, 2 or, 3 and (children x, y), 4 some (diamond), 5 every (box) (x an action entry below the count, y the child), 6 variable x,
--- 7 least, 8 greatest fixed point (x the variable bound, y the child)."
-pub data NodeSort : Type 0 where
-  falseNode trueNode orNode andNode someNode everyNode variableNode leastNode greatestNode unknownNode : NodeSort
-
--- the kind of a node by its number
-abbrev pub nodeSort : ℕ → NodeSort
-nodeSort k =
-    pick (eqb k 0) falseNode
-    (pick (eqb k 1) trueNode
-    (pick (eqb k 2) orNode
-    (pick (eqb k 3) andNode
-    (pick (eqb k 4) someNode
-    (pick (eqb k 5) everyNode
-    (pick (eqb k 6) variableNode (pick (eqb k 7) leastNode (pick (eqb k 8) greatestNode unknownNode))))))))
 
 -- The formula of node n by its sort, where go gives the formulas of nodes: or and and "(children x, y)", some and every "(x an action entry
 -- below the count, y the child)", least and greatest "(x the variable bound, y the child)".

@@ -9,10 +9,11 @@ use Rattle.sheet.specs.Bytes.{pick}
 use Rattle.sheet.specs.Contents.{planBody, actionsBody, ruleBody}
 use Rattle.sheet.specs.Plan.{stateCount, actionCount}
 use Rattle.sheet.specs.Rule.{nodeCount, nodeKind, nodeX, nodeY, binderCount, binderNode, below}
+use Rattle.sheet.specs.Kinds.{NodeSort, nodeSort, unknownNode}
+use Rattle.sheet.specs.Kinds.{falseNode, trueNode, orNode, andNode, someNode, everyNode, variableNode, leastNode, greatestNode}
 use Rattle.sheet.specs.TransitionSystem.{LabelledTransition, planOf}
 use Rattle.calculus.specs.Meaning.{meets}
-use Rattle.calculus.specs.Decode.{actionFormula, NodeSort, nodeSort, unknownNode}
-use Rattle.calculus.specs.Decode.{falseNode, trueNode, orNode, andNode, someNode, everyNode, variableNode, leastNode, greatestNode}
+use Rattle.calculus.specs.Decode.{actionFormula}
 use Rattle.rows.specs.Rows.{Row, disjunction, conjunction}
 use Rattle.rows.specs.Tables.{constant}
 

@@ -1,3 +1,4 @@
+pub mod Arity
 pub mod Binders
 pub mod Children
 pub mod Extents

@@ -2,6 +2,7 @@ pub mod Bytes
 pub mod Contents
 pub mod Plan
 pub mod Actions
+pub mod Kinds
 pub mod Rule
 pub mod WellFormed
 pub mod Fields
@@ -13,6 +14,7 @@ pub mod Writing
 pub mod RunningCalls
 pub mod AnsweredCalls
 pub mod Subtrees
+pub mod Children
 pub mod Bindings
 pub mod FirstFault
 pub mod Acceptance

@@ -6,6 +6,7 @@ pub mod actions;
 mod body_check;
 mod contents;
 mod decode;
+pub mod kinds;
 pub mod plan;
 pub mod reader;
 pub mod rule;

@@ -9,6 +9,7 @@ use crate::actions::both_zero;
 use crate::decode::byte_at;
 use crate::decode::fields_at;
 use crate::decode::narrow_at;
+use crate::kinds::child_count;
 ghost use mathlib.Core.Path.{_≡_};
 ghost use mathlib.Core.Bool.{_&&_};
 ghost use Prim.Native.Nat.{_+_, _<_, _≤_};
@@ -216,21 +217,15 @@ fn subtree_end(r: &[u8], n: Node) -> usize
     let mut left: usize = 64;
     while 0 < left {
         left -= 1;
-        let k = byte_at(r, 1 + 3 * at);
-        if k < 2 {
+        let children = child_count(narrow_at(r, 1 + 3 * at));
+        if children == 0 {
             return at + 1;
         }
-        if k < 4 {
-            at = byte_at(r, 3 + 3 * at);
+        if children == 1 {
+            at += 1;
             continue;
         }
-        if k == 6 {
-            return at + 1;
-        }
-        if 8 < k {
-            return at + 1;
-        }
-        at += 1;
+        at = byte_at(r, 3 + 3 * at);
     }
     at
 }

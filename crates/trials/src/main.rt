@@ -1,4 +1,5 @@
 // The trial driver: reads requests from standard input until it ends, and writes the result of each as text.
+mod children;
 mod guard;
 mod input;
 mod list;
@@ -23,6 +24,7 @@ fn answer(number: u8, first: &mut Buffer, second: &mut Buffer, third: &mut Buffe
         5 => query::answer(first, second),
         6 => write::answer(first, second, third),
         7 => pattern::answer(first, second, third),
+        8 => children::answer(),
         _ => false,
     }
 }

@@ -58,7 +58,7 @@ pub fn vectors(dir: &str) -> i32 {
 }
 
 /// A query is refused by 12 exactly at the states from which a loop can be reached; elsewhere its verdict is Table 1's.
-/// Visits add up to the cells filled; a second query fills none.
+/// Visits add up to the cells filled; a second query fills none. The children of the nodes are all nodes but the root.
 pub fn selfcheck(seed: u64, count: u64) -> i32 {
     let (mut sheets, mut done, mut yes) = (0u64, 0u64, 0u64);
     let mut loops = LoopTally::default();
@@ -73,6 +73,11 @@ pub fn selfcheck(seed: u64, count: u64) -> i32 {
                 return 1;
             }
         };
+        // each node but the root is a child of one node
+        if 1 + p.nodes.chunks_exact(3).map(|n| oracle::children(n[0])).sum::<usize>() != p.node_count() {
+            println!("seed {seed}, sheet {i}: the children are not the nodes below the root: {sheet:?}");
+            return 1;
+        }
         let Some((truth, _)) = oracle::meaning(&p, 300_000) else { continue };
         if p.states <= 64 && oracle::reference(&sheet) != Ok(truth as u64) {
             println!("seed {seed}, sheet {i}: the two reference judges differ");
@@ -333,12 +338,12 @@ pub fn compare(trials: &str, seed: u64, count: u64, numbers: &[u8], shrinking: b
     let mut last = 0;
     for ((kind, refusal), n) in &tally {
         if *kind != last {
-            line += &format!("\n  request {kind}: number");
+            line += &format!("\n  request {kind}: {}", if *kind == 8 { "children" } else { "number" });
             last = *kind;
         }
         line += &format!(" {refusal}:{n}");
     }
-    println!("refusal numbers met (in a request's first line):{line}");
+    println!("refusal numbers met (in a request's first line), and numbers of children:{line}");
     println!("lists and queries on plans with a loop: {loops}");
     println!("{turns}");
     if numbers.contains(&7) {
@@ -364,6 +369,7 @@ fn describe(trials: &str, r: &Request) {
         Request::Pattern { sheet, pattern, out_len, fill } => {
             println!("    sheet {sheet:?}\n    pattern {pattern:?}\n    output of {out_len} bytes {fill}")
         }
+        Request::Children(kind) => println!("    kind {kind}"),
     }
     println!("    oracle {}", clip(&protocol::answers(&b)));
     if let Ok((out, ended)) = drive(trials, &b, 20) {
@@ -383,9 +389,9 @@ struct Tree {
 
 fn tree(nodes: &[[u8; 3]], i: usize) -> Tree {
     let [kind, x, y] = nodes[i];
-    let below = match kind {
-        2 | 3 => vec![tree(nodes, x as usize), tree(nodes, y as usize)],
-        4 | 5 | 7 | 8 => vec![tree(nodes, y as usize)],
+    let below = match oracle::children(kind) {
+        2 => vec![tree(nodes, x as usize), tree(nodes, y as usize)],
+        1 => vec![tree(nodes, y as usize)],
         _ => vec![],
     };
     Tree { kind, x, below }
@@ -579,6 +585,7 @@ fn candidates(r: &Request) -> Vec<Request> {
         Request::Read(s) => smaller_sheets(s).into_iter().map(Request::Read).collect(),
         Request::Guard(s) => smaller_sheets(s).into_iter().map(Request::Guard).collect(),
         Request::Reference(s) => smaller_sheets(s).into_iter().map(Request::Reference).collect(),
+        Request::Children(kind) => (0..*kind).map(Request::Children).collect(),
         Request::List { sheet, table_len, fill, states } => {
             let mut out: Vec<Request> = smaller_bytes(states)
                 .into_iter()

@@ -330,11 +330,7 @@ pub fn odd(r: &mut Rng, now: u8) -> u8 {
 fn part_end(nodes: &[[u8; 3]], mut i: usize) -> usize {
     let mut due = 1;
     while due > 0 && i < nodes.len() {
-        due = match nodes[i][0] {
-            2 | 3 => due + 1,
-            4 | 5 | 7 | 8 => due,
-            _ => due - 1,
-        };
+        due = due + oracle::children(nodes[i][0]) - 1;
         i += 1;
     }
     i
@@ -908,7 +904,12 @@ pub fn request_at(seed: u64, index: u64, numbers: &[u8]) -> Request {
 }
 
 fn request(r: &mut Rng, numbers: &[u8]) -> Request {
-    match r.pick(numbers) {
+    let mut number = r.pick(numbers);
+    if number == 8 && r.chance(90) {
+        // there are only 256 of them
+        number = r.pick(numbers);
+    }
+    match number {
         1 => Request::Read(sheet(r, 20)),
         2 if r.chance(20) => Request::Guard(alternating(r)),
         2 => Request::Guard(sheet(r, 70)),
@@ -993,6 +994,7 @@ fn request(r: &mut Rng, numbers: &[u8]) -> Request {
             Request::Query { sheet, state, table }
         }
         7 => pattern_gen::request(r),
+        8 => Request::Children(if r.chance(50) { r.below(12) as u8 } else { r.byte() }),
         _ => {
             let mut b = bodies(r);
             if r.chance(1) {

@@ -1,4 +1,4 @@
-//! Differential tests and a benchmark of the trial driver, against an implementation of documents 01 and 02 (a), (b), (c) of its own.
+//! Differential tests and a benchmark of the trial driver, against an implementation of documents 01 and 02 (a) to (d) of its own.
 
 mod bench;
 mod compare;
@@ -15,9 +15,9 @@ const USAGE: &str = "usage:
   differential vectors DIR                  stored requests of DIR (NAME.stdin, NAME.stdout) against the oracle
   differential selfcheck [--seed N] [--count N]
                                             the oracle's query, and its translated patterns, against its own Table 1
-  differential compare TRIALS [--seed N] [--count N] [--requests 1,2,3,4,5,6,7] [--no-shrink]
+  differential compare TRIALS [--seed N] [--count N] [--requests 1,2,3,4,5,6,7,8] [--no-shrink]
                                             made requests, the trial driver against the oracle
-  differential bench TRIALS [--requests 1,2,3,4,5,6,7] [--out DIR]
+  differential bench TRIALS [--requests 1,2,3,4,5,6,7,8] [--out DIR]
                                             instructions and time, the trial driver against the oracle
   differential serve                        answers requests on standard input, as the trial driver does";
 
@@ -31,9 +31,9 @@ fn number(args: &[String], name: &str) -> Option<u64> {
 
 fn requests(args: &[String]) -> Vec<u8> {
     option(args, "--requests")
-        .unwrap_or_else(|| "1,2,3,4,5,6,7".into())
+        .unwrap_or_else(|| "1,2,3,4,5,6,7,8".into())
         .split(',')
-        .map(|v| v.parse().ok().filter(|n| (1..=7).contains(n)).unwrap_or_else(|| panic!("--requests: {v}")))
+        .map(|v| v.parse().ok().filter(|n| (1..=8).contains(n)).unwrap_or_else(|| panic!("--requests: {v}")))
         .collect()
 }
 

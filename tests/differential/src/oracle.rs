@@ -152,6 +152,15 @@ pub fn read_parts<'a>(plan: &'a [u8], acts: &'a [u8], rule: &'a [u8]) -> Result<
     Ok(Parts { states, transitions, actions, entries, nodes, binders, binder_node })
 }
 
+/// How many children a node of the kind has; none where the number is no kind.
+pub fn children(kind: u8) -> usize {
+    match kind {
+        2 | 3 => 2,
+        4 | 5 | 7 | 8 => 1,
+        _ => 0,
+    }
+}
+
 /// Walks the part that starts at node `i`; gives the first node after it, or the first faulty node.
 fn shape(nodes: &[u8], entries: usize, i: usize, end: &mut [usize; 64]) -> Result<usize, usize> {
     let n = nodes.len() / 3;

@@ -105,12 +105,12 @@ impl Formula {
     /// The rule of a sheet from node `i` on.
     fn rule(&mut self, nodes: &[u8], i: usize) -> Result<usize, Refusal> {
         let (kind, x, y) = (nodes[3 * i], nodes[3 * i + 1] as usize, nodes[3 * i + 2] as usize);
-        match kind {
-            2 | 3 => {
+        match oracle::children(kind) {
+            2 => {
                 let below = [self.rule(nodes, x)?, self.rule(nodes, y)?];
                 self.put(kind, 0, below)
             }
-            4 | 5 | 7 | 8 => {
+            1 => {
                 let below = [self.rule(nodes, y)?];
                 self.put(kind, x as u32, below)
             }

@@ -12,6 +12,7 @@ pub enum Request {
     Query { sheet: Vec<u8>, state: u8, table: Vec<u8> },
     Write { bodies: [Vec<u8>; 3], out_len: u16, fill: u8 },
     Pattern { sheet: Vec<u8>, pattern: Vec<u8>, out_len: u16, fill: u8 },
+    Children(u8),
 }
 
 fn blob(out: &mut Vec<u8>, b: &[u8]) {
@@ -29,6 +30,7 @@ impl Request {
             Request::Query { .. } => 5,
             Request::Write { .. } => 6,
             Request::Pattern { .. } => 7,
+            Request::Children(_) => 8,
         }
     }
 
@@ -58,6 +60,7 @@ impl Request {
                 out.extend(out_len.to_le_bytes());
                 out.push(*fill);
             }
+            Request::Children(kind) => out.push(*kind),
         }
     }
 }
@@ -71,6 +74,7 @@ pub enum View<'a> {
     Query { sheet: &'a [u8], state: u8, table: &'a [u8] },
     Write { bodies: [&'a [u8]; 3], out_len: usize, fill: u8 },
     Pattern { sheet: &'a [u8], pattern: &'a [u8], out_len: usize, fill: u8 },
+    Children(u8),
 }
 
 pub struct Input<'a> {
@@ -110,6 +114,7 @@ impl<'a> Input<'a> {
                 fill: self.byte()?,
             },
             7 => View::Pattern { sheet: self.blob()?, pattern: self.blob()?, out_len: self.word()?, fill: self.byte()? },
+            8 => View::Children(self.byte()?),
             _ => return None,
         })
     }
@@ -187,6 +192,7 @@ pub fn answer(request: &View, out: &mut Vec<u8>) {
             hex("out", &buffer, out);
             Ok(())
         }
+        View::Children(kind) => writeln!(out, "children {}", oracle::children(*kind)),
     };
 }
 

@@ -7,10 +7,11 @@ use native.Mathlib.Omega.{arith}
 use native.Mathlib.Decide.{ℕ-discrete}
 use Rattle.sheet.specs.Rule.{nodeCount, nodeKind, nodeX, nodeY}
 use Rattle.sheet.specs.WellFormed.{Subtree, WellFormedRule}
+use Rattle.sheet.specs.Kinds.{nodeSort}
 use Rattle.sheet.proofs.nodes.Subtrees.{subtree-after}
 use Rattle.sheet.proofs.nodes.Children.{node-subtree, pair-children, modal-child, binder-child}
 use Rattle.calculus.specs.Formulas.{Formula, falseFormula, trueFormula, disj, conj, some, every, var, least, greatest}
-use Rattle.calculus.specs.Decode.{actionFormula, nodeSort, nodeFormula, formulaWithin, formula}
+use Rattle.calculus.specs.Decode.{actionFormula, nodeFormula, formulaWithin, formula}
 use Rattle.calculus.specs.DecodedKinds.{NodeDecoded, NodesDecoded}
 
 module _ (a r : List ℕ) (n : ℕ) (go go′ : ℕ → Formula) where

@@ -14,7 +14,7 @@ use Rattle.sheet.specs.Rule.{nodeCount, nodeKind, nodeX, nodeY, binderNode}
 use Rattle.sheet.specs.WellFormed.{WellFormedRule}
 use Rattle.sheet.proofs.nodes.Subtrees.{pair-subtrees, modal-subtree, binder-subtree}
 use Rattle.sheet.specs.TransitionSystem.{planOf}
-use Rattle.calculus.specs.Decode.{nodeSort}
+use Rattle.sheet.specs.Kinds.{nodeSort}
 use Rattle.sheet.proofs.nodes.Children.{node-subtree}
 use Rattle.rows.specs.Rows.{Row, Connective, disjunction, conjunction, decides}
 use Rattle.rows.specs.Tables.{constant}

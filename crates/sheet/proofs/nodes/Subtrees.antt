@@ -103,7 +103,7 @@ module _ {entries : ℕ} {r : List ℕ} where
   subtree-end p h = subtree-end-within 64 p h
 
   -- a node has one subtree only
-  subtree-one : {n e e′ : ℕ} → Subtree entries r n e → Subtree entries r n e′ → e ≡ e′
+  pub subtree-one : {n e e′ : ℕ} → Subtree entries r n e → Subtree entries r n e′ → e ≡ e′
   subtree-one {n} {e} {e′} p q = sym (subtree-end-within (e + e′) p (omega arith)) ∙ subtree-end-within (e + e′) q (omega arith)
 
   at-or-after : {n e : ℕ} → Subtree entries r n e → (m : ℕ) → n ≤ m → (suc n ≤ m → SubtreeWithin entries r m e) → SubtreeWithin entries r m e

@@ -1,5 +1,5 @@
 -- Counting binders in preorder, and following a node's last child to the end of its subtree.
-use Prim.Native.Nat.{ℕ, suc, _+_, _-_, _<_, _≤_}
+use Prim.Native.Nat.{ℕ, zero, suc, _+_, _-_, _<_, _≤_}
 use mathlib.Core.Path.{_≡_, refl, sym, ap, _∙_}
 use mathlib.Core.Bool.{true, false, not, _&&_}
 use mathlib.Core.List.{List}
@@ -10,7 +10,9 @@ use lib.Dec.{eqb, ltb, leb}
 use borrow.Author.Tests.{lt-ltb, le-ltb, eq-eqb, ne-eqb, le-leb, lt-leb}
 use Rattle.sheet.specs.internal.Counting.{BindersCounted}
 use Rattle.sheet.proofs.nodes.Shapes.{shape-leaf, shape-pair, shape-modal, shape-variable, shape-binder, shape-unknown, kinds}
-use Rattle.sheet.specs.Rule.{nodeKind, nodeX, nodeY, isBinder, bindersBefore, binderNode, endWithin, below, bindingFaulty}
+use Rattle.sheet.specs.Rule.{nodeKind, nodeX, nodeY, shapeOf, isBinder, bindersBefore, binderNode, endCourse, endWithin, below, bindingFaulty}
+use Rattle.sheet.specs.Kinds.{childCount}
+use Rattle.sheet.proofs.nodes.Arity.{count-leaf, count-pair, count-modal, count-variable, count-binder, count-unknown}
 
 pub counted-none : (r : List ℕ) → BindersCounted r 0 0
 unfolding bindersBefore
@@ -25,41 +27,56 @@ module _ {r : List ℕ} {n binders : ℕ} (k : BindersCounted r n binders) where
   unfolding bindersBefore
   counted-other e = record { is = rw (add-one n, e) (omega (arith, k .is)); few = omega (arith, k .few) }
 
+-- the end of a node's subtree, by the number of its children
+module _ (go : ℕ → ℕ) (r : List ℕ) (n : ℕ) where
+  endAfter : ℕ → ℕ
+  endAfter zero = n + 1
+  endAfter (suc zero) = go (n + 1)
+  endAfter (suc (suc more)) = go (nodeY r n)
+
+  end-course : (k : ℕ) → endCourse go r n (shapeOf k) ≡ endAfter (childCount k)
+  unfolding endAfter
+  end-course k =
+      kinds k
+      (λ l. ap (endCourse go r n) (shape-leaf k l) ∙ sym (ap endAfter (count-leaf k l)))
+      (λ h l. ap (endCourse go r n) (shape-pair k h l) ∙ sym (ap endAfter (count-pair k h l)))
+      (λ h l. ap (endCourse go r n) (shape-modal k h l) ∙ sym (ap endAfter (count-modal k h l)))
+      (λ q. ap (endCourse go r n) (shape-variable k q) ∙ sym (ap endAfter (count-variable k q)))
+      (λ h l. ap (endCourse go r n) (shape-binder k h l) ∙ sym (ap endAfter (count-binder k h l)))
+      (λ h. ap (endCourse go r n) (shape-unknown k h) ∙ sym (ap endAfter (count-unknown k h)))
+
+  after-second : (count : ℕ) → (count ≡ 0 → ⊥) → (count ≡ 1 → ⊥) → endAfter count ≡ go (nodeY r n)
+  unfolding endAfter
+  after-second zero z o = absurd (z refl)
+  after-second (suc zero) z o = absurd (o refl)
+  after-second (suc (suc more)) z o = refl
+
 module _ (r : List ℕ) (n : ℕ) where
   pub end-none : n ≡ endWithin 0 r n
   unfolding endWithin
   end-none = refl
 
   module _ (left : ℕ) (some : 0 < left) where
-    one-more : left ≡ suc (left - 1)
-    one-more = omega arith
-
-    pub end-leaf : nodeKind r n < 2 → n + 1 ≡ endWithin left r n
+    end-counted : endWithin left r n ≡ endAfter (endWithin (left - 1) r) r n (childCount (nodeKind r n))
     unfolding endWithin
-    end-leaf h = rw (one-more, shape-leaf (nodeKind r n) h)
+    end-counted =
+        ap (λ (depth : ℕ). endWithin depth r n) {x = left} {y = suc (left - 1)} (omega arith) ∙
+        end-course (endWithin (left - 1) r) r n (nodeKind r n)
 
-    pub end-pair : 2 ≤ nodeKind r n → nodeKind r n < 4 → endWithin (left - 1) r (nodeY r n) ≡ endWithin left r n
-    unfolding endWithin
-    end-pair h l = sym (ap (λ (d : ℕ). endWithin d r n) one-more ∙ rw (shape-pair (nodeKind r n) h l))
+    end-with : (count : ℕ) → childCount (nodeKind r n) ≡ count → endWithin left r n ≡ endAfter (endWithin (left - 1) r) r n count
+    end-with count q = end-counted ∙ ap (endAfter (endWithin (left - 1) r) r n) q
 
-    end-modal : 4 ≤ nodeKind r n → nodeKind r n < 6 → endWithin (left - 1) r (n + 1) ≡ endWithin left r n
-    unfolding endWithin
-    end-modal h l = sym (ap (λ (d : ℕ). endWithin d r n) one-more ∙ rw (shape-modal (nodeKind r n) h l))
+    pub end-childless : childCount (nodeKind r n) ≡ 0 → n + 1 ≡ endWithin left r n
+    unfolding endAfter
+    end-childless q = sym (end-with 0 q)
 
-    pub end-variable : nodeKind r n ≡ 6 → n + 1 ≡ endWithin left r n
-    unfolding endWithin
-    end-variable h = rw (one-more, shape-variable (nodeKind r n) h)
+    pub end-only : childCount (nodeKind r n) ≡ 1 → endWithin (left - 1) r (n + 1) ≡ endWithin left r n
+    unfolding endAfter
+    end-only q = sym (end-with 1 q)
 
-    end-binder : 7 ≤ nodeKind r n → nodeKind r n < 9 → endWithin (left - 1) r (n + 1) ≡ endWithin left r n
-    unfolding endWithin
-    end-binder h l = sym (ap (λ (d : ℕ). endWithin d r n) one-more ∙ rw (shape-binder (nodeKind r n) h l))
-
-    pub end-only : 4 ≤ nodeKind r n → (nodeKind r n ≡ 6 → ⊥) → nodeKind r n < 9 → endWithin (left - 1) r (n + 1) ≡ endWithin left r n
-    end-only h ne l = elim (decLt (nodeKind r n) 6) [ yes q ↦ end-modal h q | no q ↦ end-binder (omega arith) l ]
-
-    pub end-unknown : 9 ≤ nodeKind r n → n + 1 ≡ endWithin left r n
-    unfolding endWithin
-    end-unknown h = rw (one-more, shape-unknown (nodeKind r n) h)
+    pub end-second : (childCount (nodeKind r n) ≡ 0 → ⊥) → (childCount (nodeKind r n) ≡ 1 → ⊥)
+        → endWithin (left - 1) r (nodeY r n) ≡ endWithin left r n
+    end-second z o = sym (end-counted ∙ after-second (endWithin (left - 1) r) r n (childCount (nodeKind r n)) z o)
 
 module _ (r : List ℕ) (n : ℕ) where
   pub binding-free : nodeKind r n < 6 → false ≡ bindingFaulty r n
