@@ -5,7 +5,7 @@ PROGRAM := target/bin/plan_judge
 STORED := target/stored
 DIFFERENTIAL := cd tests/differential && cargo run --release --offline --quiet --
 
-.PHONY: gate check examples trials store runs differential memory benchmark help
+.PHONY: gate check examples trials store runs lines long differential memory benchmark help
 
 gate: ## prove all from nothing, try the must-fail edits, run the programs (rt ci)
 	.ci/run
@@ -29,6 +29,13 @@ store: ## write the stored trials anew
 
 runs: ## compare what 20,000 patterns become with what they say of runs
 	python3 tests/cases.py runs 20000
+
+lines: ## compare what 20,000 lines become with what they say of actions
+	python3 tests/cases.py lines 20000
+
+long: ## read lines of a million words and parentheses on a small stack
+	rt check action_line
+	python3 tests/long_lines.py
 
 differential: ## compare the trial driver with a program in Rust on 40,000 requests
 	rt check trials

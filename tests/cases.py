@@ -1,6 +1,6 @@
 #!/usr/bin/env python3
 """The requests of the trial driver (docs/TRIALS.md) and what they must give, computed from
-docs/FORMAT.md and docs/PATTERNS.md and not by the crates.
+docs/FORMAT.md, docs/PATTERNS.md and docs/LINES.md and not by the crates.
 
     cases.py store DIR             DIR/stdin and DIR/stdout: the vectors of tests/vectors, then the
                                    cases of tests/inputs
@@ -8,6 +8,8 @@ docs/FORMAT.md and docs/PATTERNS.md and not by the crates.
     cases.py check STDIN STDOUT    recomputes STDOUT from STDIN
     cases.py runs COUNT            so many random patterns: what each becomes holds by Table 1 at
                                    the states where its sentence about runs does
+    cases.py lines COUNT           so many random lines: the last entry of the body that each
+                                   becomes is met by the actions that the line says
 
 A last word NUMBERS, as 12456, to `store` and `large` keeps these requests alone.
 """
@@ -15,12 +17,16 @@ import random
 import sys
 from pathlib import Path
 
-from inputs.chance import random_sentence
+from inputs.chance import random_line, random_sentence
+from inputs.parts import T, plan, rule
 from inputs.pattern_parts import body_of, with_rule
 from inputs.streams import CUT, ENDING, large, stored
+from oracle.line_actions import actions_said, refusal_of
+from oracle.lines import line_body
 from oracle.protocol import answered, answers
 from oracle.rows import Sheet
 from oracle.runs import sentence
+from oracle.sheet import Refused, sheet_of
 from oracle.table1 import meaning
 
 VECTORS = Path(__file__).parent / 'vectors'
@@ -76,11 +82,34 @@ def runs(count):
     return 0
 
 
+def lines(count):
+    rng, found, met, actions = random.Random(7), {0: 0, 32: 0, 33: 0, 34: 0}, 0, 0
+    for i in range(count):
+        below, line = random_line(rng, (1, 2, 3, 4, 5, 8, 12, 16, 17))
+        said = last = actions_said(line, below)
+        try:
+            number, body = 0, line_body(below, line, 97)
+            last = Sheet(sheet_of(plan(1, below, []), body, rule(T))).formulas[-1]
+            met, actions = met + len(last), actions + below
+        except Refused as refused:
+            number = refused.number
+        if number != refusal_of(line, below) or last != said:
+            print('line', i, line, 'for', below, 'actions: number', number, 'and not',
+                  refusal_of(line, below), 'or met by', last, 'and not by', said)
+            return 1
+        found[number] += 1
+    print('%d lines: the actions that meet their bodies agree (%d of %d); refused with 32: %d, '
+          'with 33: %d, with 34: %d' % (found[0], met, actions, found[32], found[33], found[34]))
+    return 0
+
+
 def main(args):
     if args[:1] == ['check'] and len(args) == 3:
         return check(*args[1:])
     if args[:1] == ['runs'] and len(args) == 2:
         return runs(int(args[1]))
+    if args[:1] == ['lines'] and len(args) == 2:
+        return lines(int(args[1]))
     numbers = b''
     if len(args) > 2 and args[-1].isdigit():
         numbers = bytes(map(int, args.pop()))

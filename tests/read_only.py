@@ -13,16 +13,13 @@
 Run `rt check` first: the programs are taken as it last built them. The libraries are built in a
 temporary folder.
 """
-import shutil
 import struct
-import subprocess
 import sys
 import tempfile
 from pathlib import Path
 
+from native import HERE, archive, run
 from oracle.sheet import children
-
-HERE = Path(__file__).resolve().parent.parent
 
 ALONE = '''
 #[no_mangle]
@@ -182,27 +179,9 @@ def member(archive):
     return found[0]
 
 
-def run(where, *words):
-    done = subprocess.run(words, cwd=where, capture_output=True, text=True)
-    if done.returncode:
-        sys.exit('%s\n%s%s' % (' '.join(words), done.stdout[-2000:], done.stderr[-2000:]))
-
-
 def library(root, source):
     """the sections of a library over the sheet crate of a repository that rt has proved"""
-    with tempfile.TemporaryDirectory() as folder:
-        made = Path(folder)
-        sheet = [line for line in (root / 'crates.txt').read_text().splitlines()
-                 if line.startswith('sheet:')]
-        (made / 'crates.txt').write_text('\n'.join([*sheet, 'made: sheet', '']))
-        shutil.copytree(root / 'crates/sheet', made / 'crates/sheet')
-        (made / 'crates/made/src').mkdir(parents=True)
-        (made / 'crates/made/src/lib.rt').write_text(source.lstrip())
-        shutil.copytree(root / 'target/rlib/sheet.rlib', made / 'target/rlib/sheet.rlib')
-        (made / 'target/stamp').mkdir()
-        shutil.copy(root / 'target/stamp/sheet', made / 'target/stamp/sheet')
-        run(made, 'rt', 'staticlib', 'made')
-        return sections(member((made / 'target/staticlib/libmade.a').read_bytes()))
+    return sections(member(archive(root, source, 'sheet')))
 
 
 def function():

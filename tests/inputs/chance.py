@@ -1,9 +1,10 @@
 """Bodies, sheets and requests made at random."""
 from inputs.parts import plan, rule, table
+from oracle.lines import line_body
 from oracle.patterns import translate
 from oracle.protocol import (
-    guard_request, list_request, pattern_request, query_request, read_request, reference_request,
-    write_request)
+    guard_request, line_request, list_request, pattern_request, query_request, read_request,
+    reference_request, write_request)
 from oracle.rows import Sheet
 from oracle.sheet import Refused, accepted, sheet_of
 
@@ -157,3 +158,64 @@ def random_translation(rng, items=(1, 2, 3, 4, 5, 6, 8, 12)):
         size = rng.randrange(20)
     yield pattern_request(s, b, max(0, size + rng.choice((0, 0, 0, 1, 5, -1, -20))),
                           rng.randrange(256))
+
+
+def spelt(rng, tokens):
+    """a line: spaces where letters or digits would touch, and now and then elsewhere"""
+    line, often = b'', rng.choice((0.05, 0.5))
+    for token in tokens:
+        if line[-1:].isalnum() and token.isalnum() or rng.random() < often:
+            line += b' ' * rng.choice((1, 1, 1, 3))
+        line += token
+    return line + b' ' * (rng.random() < 0.1)
+
+
+def random_operand(rng, actions):
+    if rng.random() < 0.2:
+        return rng.choice((b'true', b'false'))
+    above = rng.choice((actions, actions + 256, rng.randrange(10 ** rng.choice((3, 5, 30)))))
+    return b'%d' % (above if actions == 0 or rng.random() < 0.02 else rng.randrange(actions))
+
+
+def random_tokens(rng, actions, operands):
+    """of a line that can be read, with so many numbers, `true` and `false`"""
+    tokens, depth = [], 0
+    before, behind = rng.choice((0.1, 0.4, 0.6)), rng.choice((0.1, 0.6))
+    for i in range(operands):
+        if i:
+            tokens.append(rng.choice((b'and', b'or')))
+        while rng.random() < before:
+            tokens.append(rng.choice((b'not', b'(')))
+            depth += tokens[-1] == b'('
+        tokens.append(random_operand(rng, actions))
+        while depth and rng.random() < behind:
+            tokens.append(b')')
+            depth -= 1
+    return tokens + [b')'] * depth
+
+
+def damaged_tokens(rng, tokens):
+    """one taken out, put in, or changed for another"""
+    at = rng.randrange(len(tokens))
+    word = rng.choice((b'not', b'and', b'or', b'(', b')', b'true', b'3', b'03', b'Not', b'nor'))
+    return [*tokens[:at], *rng.choice(([], [word], [word, tokens[at]])), *tokens[at + 1:]]
+
+
+def random_line(rng, operands):
+    """a number of actions and a line, whole or damaged"""
+    actions = rng.choice((0, 1, 4, 9, 9, 9, 100, 255))
+    tokens = random_tokens(rng, actions, rng.choice(operands))
+    if rng.random() < 0.2:
+        tokens = damaged_tokens(rng, tokens)
+    line = spelt(rng, tokens)
+    return actions, damaged(rng, line) if rng.random() < 0.1 else line
+
+
+def random_typing(rng, operands=(1, 2, 3, 4, 5, 8, 12, 16)):
+    actions, line = random_line(rng, operands)
+    try:
+        size = len(line_body(actions, line, 65535))
+    except Refused:
+        size = rng.randrange(8)
+    yield line_request(actions, line, max(0, size + rng.choice((0, 0, 0, 1, 5, -1, -20))),
+                       rng.randrange(256))

@@ -2,8 +2,12 @@
 import random
 
 from inputs.bodies import reading_and_writing
-from inputs.chance import random_judging, random_list, random_reading, random_translation
+from inputs.chance import (
+    random_judging, random_list, random_reading, random_translation, random_typing)
 from inputs.judging import judgings
+from inputs.line_limits import longest_lines
+from inputs.line_page import lines_to_try
+from inputs.lines import judged_lines, lines, read_lines
 from inputs.loop_plans import loops_to_try
 from inputs.parts import (
     K, K_ACTIONS, K_PLAN, K_RULE, LONG, LONG_ACTIONS, LONG_PLAN, T, TRUE, deepest, plan, rule)
@@ -12,8 +16,8 @@ from inputs.patterns import judged_translations, patterns
 from inputs.rules import children_to_try
 from inputs.to_try import to_try
 from oracle.protocol import (
-    answers, guard_request, list_request, pattern_request, query_request, read_request,
-    reference_request, write_request)
+    answers, guard_request, line_request, list_request, pattern_request, query_request,
+    read_request, reference_request, write_request)
 from oracle.sheet import sheet_of, triples
 
 
@@ -30,6 +34,8 @@ def stored():
     yield from judgings()
     yield from expected(*patterns_to_try(), *judged_translations())
     yield from patterns()
+    yield from expected(*lines_to_try(), *judged_lines(), *read_lines())
+    yield from lines()
 
 
 # an unknown request ends the run: what follows it gives nothing
@@ -82,3 +88,8 @@ def large():
     transitions = [t for t in triples(LONG_PLAN, 4) if t[0] not in (50, 70, 100)]
     p = plan(128, 255, sorted([*transitions, (50, 0, 70), (70, 254, 100)]))
     yield list_request(sheet_of(p, LONG_ACTIONS, rule((4, 1, 1), T)), 256, 0, range(129))
+    for line in (*longest_lines(), full):
+        yield line_request(9, line, 97, 206)
+    yield line_request(9, b'not 3 and 4 or 5', 65535, 207)
+    for _ in range(4000):
+        yield from random_typing(rng, (1, 2, 3, 5, 9, 13, 16, 17, 40))

@@ -1,4 +1,5 @@
 """The trial driver's protocol (docs/TRIALS.md): requests as bytes, and the lines they give."""
+from oracle.lines import line_body
 from oracle.patterns import translate
 from oracle.rows import clear, query
 from oracle.sheet import Refused, children, read_sheet, two, word, write_sheet
@@ -39,6 +40,10 @@ def pattern_request(s, pattern, size, fill):
 
 def children_request(kind):
     return bytes([8, kind])
+
+
+def line_request(actions, line, size, fill):
+    return bytes([9, actions]) + blob_of(line) + two(size) + bytes([fill])
 
 
 def yes(b):
@@ -144,8 +149,14 @@ def answer_children(stream):
     return 'children %d\n' % children(stream.byte())
 
 
+def answer_line(stream):
+    actions, line, out = stream.byte(), stream.blob(), stream.buffer()
+    text = reported('line', lambda: written(line_body(actions, line, len(out)), out), 0)
+    return text + 'out %s\n' % out.hex()
+
+
 ANSWERS = {1: answer_read, 2: answer_guard, 3: answer_reference, 4: answer_list, 5: answer_query,
-           6: answer_write, 7: answer_pattern, 8: answer_children}
+           6: answer_write, 7: answer_pattern, 8: answer_children, 9: answer_line}
 
 
 def answered(given):

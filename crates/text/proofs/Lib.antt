@@ -1,3 +1,4 @@
 pub mod Decimal
 pub mod DigitsFound
 pub mod Placing
+pub mod Comparing

@@ -1,3 +1,4 @@
 pub mod Decimal
 pub mod Words
 pub mod Placing
+pub mod Comparing

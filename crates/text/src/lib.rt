@@ -1,7 +1,8 @@
-// Texts put together in a buffer: a text, a number in decimal, `true` or `false`. Each function puts its text at a place of the buffer and answers the
-// place after it. Where the text does not fit it puts nothing and answers a place past the end, where nothing fits any more: so a line of several texts
-// is put by one call after another, and only the last place is tested.
+// Texts put together in a buffer: a text, a number in decimal, `true` or `false`; and whether two texts are the same. Each `put` function puts its text
+// at a place of the buffer and answers the place after it. Where the text does not fit it puts nothing and answers a place past the end, where nothing
+// fits any more: so a line of several texts is put by one call after another, and only the last place is tested.
 ghost use mathlib.Core.Path.{_≡_};
+ghost use Rattle.text.specs.Comparing.{sameText};
 ghost use Rattle.text.specs.Decimal.{decimalOf};
 ghost use Rattle.text.specs.Placing.{bufferAfter, placeAfter};
 ghost use Rattle.text.specs.Words.{boolText};
@@ -49,4 +50,21 @@ pub fn put_bool(b: bool, at: usize, out: &mut [u8]) -> usize
         return put(b"true", at, out);
     }
     put(b"false", at, out)
+}
+
+// Whether two texts are the same, byte for byte.
+pub fn same(text: &[u8], other: &[u8]) -> bool
+    ensures { λ r. ⌜ r ≡ sameText (now (text .entry)) (now (other .entry)) ⌝ }
+{
+    if text.len() != other.len() {
+        return false;
+    }
+    let mut at: usize = 0;
+    while at < text.len() {
+        if text[at] != other[at] {
+            return false;
+        }
+        at += 1;
+    }
+    true
 }

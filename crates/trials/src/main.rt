@@ -2,6 +2,7 @@
 mod children;
 mod guard;
 mod input;
+mod line;
 mod list;
 mod output;
 mod pattern;
@@ -25,6 +26,7 @@ fn answer(number: u8, first: &mut Buffer, second: &mut Buffer, third: &mut Buffe
         6 => write::answer(first, second, third),
         7 => pattern::answer(first, second, third),
         8 => children::answer(),
+        9 => line::answer(first, second),
         _ => false,
     }
 }

@@ -2,6 +2,8 @@
 
 use crate::compare::drive;
 use crate::gen::{self, Loops, Parts, Rng, Size};
+use crate::line_gen;
+use crate::lines;
 use crate::oracle;
 use crate::pattern_gen;
 use crate::patterns;
@@ -112,6 +114,39 @@ fn translating(made: &[(Vec<u8>, Vec<u8>)], pattern: impl Fn(&[u8]) -> Vec<u8>) 
     made.iter().map(|(s, b)| Request::Pattern { sheet: s.clone(), pattern: pattern(b), out_len: 193, fill: 7 }).collect()
 }
 
+/// For how many actions lines are read.
+const ACTIONS: u8 = 100;
+
+/// Lines of a size. Those that one would type have n / 4 entries and are, out of many made at random, about the upper quarter by their
+/// length; the others have about 500 n bytes.
+fn typed(name: &str, n: usize) -> Vec<Vec<u8>> {
+    let long = match name {
+        "reading a line" => {
+            let mut all = Vec::new();
+            let mut index = 0;
+            while all.len() < 60 {
+                let mut r = Rng::new(SEED, 2_000_000 + 1000 * n as u64 + index);
+                index += 1;
+                let line = line_gen::line(&mut r, ACTIONS, n / 4, 0);
+                if lines::body(ACTIONS, &line).is_ok() {
+                    all.push(line);
+                }
+            }
+            all.sort_by_key(Vec::len);
+            return all[45 - SHEETS / 2..45 + SHEETS / 2].to_vec();
+        }
+        "reading many parentheses" => [vec![b'('; 250 * n - 1], b"12".to_vec(), vec![b')'; 250 * n - 1]].concat(),
+        "refusing many nots" => [&b"not ".repeat(125 * n)[..], b"12"].concat(),
+        _ => vec![b'1'; 500 * n],
+    };
+    vec![long; SHEETS]
+}
+
+fn typing(made: Vec<Vec<u8>>) -> Vec<Request> {
+    // room for the longest body
+    made.into_iter().map(|line| Request::Line { actions: ACTIONS, line, out_len: 97, fill: 7 }).collect()
+}
+
 struct Program {
     path: String,
     args: Vec<String>,
@@ -166,7 +201,7 @@ struct Row {
     clear: bool,
 }
 
-const OPS: [&str; 7] = [
+const OPS: [&str; 11] = [
     "reading",
     "reference",
     "first query",
@@ -174,9 +209,13 @@ const OPS: [&str; 7] = [
     "query of an end state",
     "translating a pattern",
     "refusing a long pattern",
+    "reading a line",
+    "reading many parentheses",
+    "refusing many nots",
+    "refusing a long number",
 ];
 /// The request of each.
-const NUMBERS: [u8; 7] = [1, 3, 4, 4, 4, 7, 7];
+const NUMBERS: [u8; 11] = [1, 3, 4, 4, 4, 7, 7, 9, 9, 9, 9];
 
 fn stream(requests: &[Request], times: usize) -> Vec<u8> {
     let mut one = Vec::new();
@@ -253,6 +292,7 @@ pub fn bench(trials: &str, numbers: &[u8], out: &str) -> i32 {
                     let whole = translating(&made, |b| if op == 5 { b.to_vec() } else { long.clone() });
                     (whole, translating(&made, |_| vec![]))
                 }
+                7.. => (typing(typed(name, n)), typing(vec![vec![]; SHEETS])),
                 _ => {
                     let s = sheets(n, binders, false);
                     // no transition of these plans leaves the last state
@@ -267,7 +307,7 @@ pub fn bench(trials: &str, numbers: &[u8], out: &str) -> i32 {
             let tag = format!("{}-{n}", name.replace(' ', "-"));
             let input = store(&tag, &stream(&requests, 1));
             if driver.output(&input) != rust.output(&input) {
-                eprintln!("{name}, {n} states: the two programs do not answer alike; run compare");
+                eprintln!("{name}, n = {n}: the two programs do not answer alike; run compare");
                 return 1;
             }
             let base_input = store(&format!("{tag}-base"), &stream(&base, 1));
@@ -297,7 +337,7 @@ pub fn bench(trials: &str, numbers: &[u8], out: &str) -> i32 {
                 row.clear &= whole[k] - without[k] > 0.15 * whole[k];
             }
             eprintln!(
-                "{name}, {n} states: instructions {:.0} / {:.0} = {:.2}, time {:.2} / {:.2} us = {:.2} ({times} times over)",
+                "{name}, n = {n}: instructions {:.0} / {:.0} = {:.2}, time {:.2} / {:.2} us = {:.2} ({times} times over)",
                 row.instructions[0],
                 row.instructions[1],
                 row.instructions[0] / row.instructions[1],
@@ -388,8 +428,8 @@ fn page(rows: &[Row], missing: &[&str], start: &[f64], start_time: &[f64], each:
         on standard input and write the same lines; the command checks that they do. The driver is the
         compiled Rattle program. The Rust program is `differential serve`, the implementation that the
         differential tests compare with: linear reading, a successor index, one mask for each action
-        formula, the lent table as its memo, a formula with shared parts for a pattern; each call takes a
-        sheet and reads it, as in the driver.",
+        formula, the lent table as its memo, a formula with shared parts for a pattern, a stack of waiting
+        operators for a line; each call that takes a sheet reads it, as in the driver.",
     );
     o += &paragraph(
         "Sheets grow in every part: n states, about 16 n transitions of 4 actions, 8 action entries of any
@@ -401,9 +441,19 @@ fn page(rows: &[Row], missing: &[&str], start: &[f64], start_time: &[f64], each:
         of n / 16 nodes; they make n / 2 + 2 nodes, at most 64, and 1 to 6 binders. A long pattern has 500 n
         bytes, an action any number of times, any number of times, and so on, and is refused with 31. The
         figures of patterns are less that of the same request with a pattern of no bytes, for which the
-        sheet is read as well. Instructions are those of `valgrind --tool=callgrind`; times are
-        the shortest of 9 runs, the programs taking turns, and \"in the noise\" stands where what is left
-        after taking away is under 15% of what was measured.",
+        sheet is read as well.",
+    );
+    o += &paragraph(
+        "Lines need no sheet; they are read for 100 actions. \"Reading a line\" is for lines of n / 4 entries,
+        4 about the upper quarter, by their length, of 60 made at random. The other lines have about 500 n
+        bytes: a number in parentheses, one pair inside the other, which becomes one entry; 125 n times
+        `not` before a number, refused with 34; a number of 500 n digits, refused with 33. The figures of
+        lines are less that of the same request with a line of no bytes.",
+    );
+    o += &paragraph(
+        "Instructions are those of `valgrind --tool=callgrind`; times are the shortest of 9 runs, the programs
+        taking turns, and \"in the noise\" stands where what is left after taking away is under 15% of what
+        was measured.",
     );
     o += &paragraph(&format!(
         "An empty run: driver {} instructions and {:.2} ms, Rust {} and {:.2} ms. A request with a sheet of
@@ -414,9 +464,9 @@ fn page(rows: &[Row], missing: &[&str], start: &[f64], start_time: &[f64], each:
     if !missing.is_empty() {
         o += &paragraph(&format!("Not measured, since this driver does not answer the request: {}.", missing.join(", ")));
     }
-    o += "![Instructions for one request, and their ratio, by the number of states](benchmark.svg)\n\n";
-    o += &paragraph("\"Growth\" is the factor over the line before, where states, transitions and nodes are half as many.");
-    o += "| call | states | driver, instructions | growth | Rust, instructions | growth | ratio | driver, us | Rust, us | ratio of time |\n";
+    o += "![Instructions for one request, and their ratio, by n](benchmark.svg)\n\n";
+    o += &paragraph("\"Growth\" is the factor over the row before, where n is half as large.");
+    o += "| call | n | driver, instructions | growth | Rust, instructions | growth | ratio | driver, us | Rust, us | ratio of time |\n";
     o += "|---|---:|---:|---:|---:|---:|---:|---:|---:|---:|\n";
     for (i, r) in rows.iter().enumerate() {
         let before = (i > 0 && rows[i - 1].op == r.op).then(|| &rows[i - 1]);
@@ -460,10 +510,12 @@ fn page(rows: &[Row], missing: &[&str], start: &[f64], start_time: &[f64], each:
 }
 
 fn plot(rows: &[Row]) -> String {
-    const COLOURS: [&str; 7] = ["#0072b2", "#d55e00", "#009e73", "#cc79a7", "#e69f00", "#56b4e9", "#777777"];
+    const COLOURS: [&str; 11] = [
+        "#0072b2", "#d55e00", "#009e73", "#cc79a7", "#e69f00", "#56b4e9", "#777777", "#332288", "#117733", "#882255", "#999933",
+    ];
     let mut o = String::new();
-    o += "<svg xmlns=\"http://www.w3.org/2000/svg\" width=\"960\" height=\"510\" viewBox=\"0 0 960 510\" font-family=\"sans-serif\" font-size=\"13\">\n";
-    o += "<rect width=\"960\" height=\"510\" fill=\"#ffffff\"/>\n";
+    o += "<svg xmlns=\"http://www.w3.org/2000/svg\" width=\"960\" height=\"540\" viewBox=\"0 0 960 540\" font-family=\"sans-serif\" font-size=\"13\">\n";
+    o += "<rect width=\"960\" height=\"540\" fill=\"#ffffff\"/>\n";
     let good: Vec<&Row> = rows.iter().filter(|r| r.instructions.iter().all(|v| *v > 0.0)).collect();
     let x = |left: f64, n: usize| left + (n as f64 / 8.0).log2() * 92.0;
     // the left panel: instructions
@@ -479,7 +531,7 @@ fn plot(rows: &[Row]) -> String {
         for (n, _) in SIZES {
             let _ = writeln!(o, "<text x=\"{}\" y=\"390\" text-anchor=\"middle\" fill=\"#444\">{n}</text>", x(left, n));
         }
-        let _ = writeln!(o, "<text x=\"{}\" y=\"410\" text-anchor=\"middle\" fill=\"#444\">states</text>", left + 184.0);
+        let _ = writeln!(o, "<text x=\"{}\" y=\"410\" text-anchor=\"middle\" fill=\"#444\">n</text>", left + 184.0);
     };
     frame(80.0, "Instructions for one request (log scale)");
     frame(560.0, "Driver's instructions over Rust's");

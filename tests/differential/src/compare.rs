@@ -1,6 +1,9 @@
 //! Comparisons: stored vectors, the oracle with itself, and the trial driver with the oracle.
 
 use crate::gen::{self, Parts, Rng};
+use crate::line_check;
+use crate::line_gen;
+use crate::lines;
 use crate::oracle;
 use crate::pattern_check;
 use crate::pattern_gen;
@@ -269,7 +272,8 @@ pub fn compare(trials: &str, seed: u64, count: u64, numbers: &[u8], shrinking: b
     println!("seed {seed}, {count} requests of the kinds {numbers:?}");
     let begun = Instant::now();
     let mut tally: std::collections::BTreeMap<(u8, String), u64> = Default::default();
-    let (mut turns, mut loops, mut made) = (Turns::default(), LoopTally::default(), pattern_check::Tally::default());
+    let (mut turns, mut loops) = (Turns::default(), LoopTally::default());
+    let (mut made, mut typed) = (pattern_check::Tally::default(), line_check::Tally::default());
     let (mut done, mut differences, mut told) = (0u64, 0u64, 0);
     while done < count {
         let n = BATCH.min(count - done);
@@ -289,6 +293,7 @@ pub fn compare(trials: &str, seed: u64, count: u64, numbers: &[u8], shrinking: b
         for (k, r) in batch.iter().enumerate() {
             turns.count(r);
             made.count(r);
+            typed.count(r);
             let want = protocol::expected(r);
             let text = String::from_utf8_lossy(&want);
             loops.count(r, &text);
@@ -349,6 +354,9 @@ pub fn compare(trials: &str, seed: u64, count: u64, numbers: &[u8], shrinking: b
     if numbers.contains(&7) {
         println!("{made}");
     }
+    if numbers.contains(&9) {
+        println!("{typed}");
+    }
     println!("seed {seed}: {done} requests compared, {differences} differences, {:.1} s", begun.elapsed().as_secs_f64());
     i32::from(differences > 0)
 }
@@ -370,6 +378,9 @@ fn describe(trials: &str, r: &Request) {
             println!("    sheet {sheet:?}\n    pattern {pattern:?}\n    output of {out_len} bytes {fill}")
         }
         Request::Children(kind) => println!("    kind {kind}"),
+        Request::Line { actions, line, out_len, fill } => {
+            println!("    {actions} actions, line {:?}\n    output of {out_len} bytes {fill}", String::from_utf8_lossy(line))
+        }
     }
     println!("    oracle {}", clip(&protocol::answers(&b)));
     if let Ok((out, ended)) = drive(trials, &b, 20) {
@@ -661,6 +672,29 @@ fn candidates(r: &Request) -> Vec<Request> {
             for l in [0, out_len / 2, out_len.saturating_sub(1)] {
                 if l < *out_len {
                     put(sheet, pattern, l);
+                }
+            }
+            out
+        }
+        Request::Line { actions, line, out_len, fill } => {
+            let length = |actions: u8, line: &[u8]| lines::body(actions, line).map_or(0, |body| body.len());
+            let was = length(*actions, line);
+            let mut out = Vec::new();
+            let mut put = |actions: u8, line: &[u8], out_len: u16| {
+                out.push(Request::Line { actions, line: line.to_vec(), out_len, fill: *fill })
+            };
+            for l in line_gen::smaller(line).iter().chain(&smaller_bytes(line)) {
+                put(*actions, l, (*out_len as usize + length(*actions, l)).saturating_sub(was) as u16);
+                put(*actions, l, *out_len);
+            }
+            for a in [0, actions / 2, actions.saturating_sub(1)] {
+                if a < *actions {
+                    put(a, line, *out_len);
+                }
+            }
+            for l in [0, out_len / 2, out_len.saturating_sub(1)] {
+                if l < *out_len {
+                    put(*actions, line, l);
                 }
             }
             out

@@ -1,5 +1,6 @@
 //! Requests made from a seed: request number i of a seed is always the same.
 
+use crate::line_gen;
 use crate::oracle::{self, assemble};
 use crate::pattern_gen;
 use crate::protocol::Request;
@@ -995,6 +996,7 @@ fn request(r: &mut Rng, numbers: &[u8]) -> Request {
         }
         7 => pattern_gen::request(r),
         8 => Request::Children(if r.chance(50) { r.below(12) as u8 } else { r.byte() }),
+        9 => line_gen::request(r),
         _ => {
             let mut b = bodies(r);
             if r.chance(1) {

@@ -1,8 +1,11 @@
-//! Differential tests and a benchmark of the trial driver, against an implementation of documents 01 and 02 (a) to (d) of its own.
+//! Differential tests and a benchmark of the trial driver, against an implementation of documents 01 and 02 (a) to (e) of its own.
 
 mod bench;
 mod compare;
 mod gen;
+mod line_check;
+mod line_gen;
+mod lines;
 mod oracle;
 mod pattern_check;
 mod pattern_gen;
@@ -14,10 +17,11 @@ use std::io::{Read, Write};
 const USAGE: &str = "usage:
   differential vectors DIR                  stored requests of DIR (NAME.stdin, NAME.stdout) against the oracle
   differential selfcheck [--seed N] [--count N]
-                                            the oracle's query, and its translated patterns, against its own Table 1
-  differential compare TRIALS [--seed N] [--count N] [--requests 1,2,3,4,5,6,7,8] [--no-shrink]
+                                            the oracle's query, and its translated patterns, against its own Table 1;
+                                            its bodies of lines against what the lines say of actions
+  differential compare TRIALS [--seed N] [--count N] [--requests 1,2,3,4,5,6,7,8,9] [--no-shrink]
                                             made requests, the trial driver against the oracle
-  differential bench TRIALS [--requests 1,2,3,4,5,6,7,8] [--out DIR]
+  differential bench TRIALS [--requests 1,2,3,4,5,6,7,8,9] [--out DIR]
                                             instructions and time, the trial driver against the oracle
   differential serve                        answers requests on standard input, as the trial driver does";
 
@@ -31,9 +35,9 @@ fn number(args: &[String], name: &str) -> Option<u64> {
 
 fn requests(args: &[String]) -> Vec<u8> {
     option(args, "--requests")
-        .unwrap_or_else(|| "1,2,3,4,5,6,7,8".into())
+        .unwrap_or_else(|| "1,2,3,4,5,6,7,8,9".into())
         .split(',')
-        .map(|v| v.parse().ok().filter(|n| (1..=8).contains(n)).unwrap_or_else(|| panic!("--requests: {v}")))
+        .map(|v| v.parse().ok().filter(|n| (1..=9).contains(n)).unwrap_or_else(|| panic!("--requests: {v}")))
         .collect()
 }
 
@@ -56,10 +60,10 @@ fn run(args: Vec<String>) -> i32 {
         (Some("selfcheck"), None) => {
             let seed = number(&args, "--seed").unwrap_or_else(compare::clock);
             let count = number(&args, "--count").unwrap_or(5000);
-            match compare::selfcheck(seed, count) {
-                0 => pattern_check::selfcheck(seed, 4 * count),
-                code => code,
-            }
+            // each with how many times over
+            let checks: [(fn(u64, u64) -> i32, u64); 3] =
+                [(compare::selfcheck, 1), (pattern_check::selfcheck, 4), (line_check::selfcheck, 20)];
+            checks.iter().map(|(check, times)| check(seed, times * count)).find(|&code| code != 0).unwrap_or(0)
         }
         (Some("compare"), Some(trials)) => compare::compare(
             &trials,
@@ -76,6 +80,20 @@ fn run(args: Vec<String>) -> i32 {
             2
         }
     }
+}
+
+/// What checks found, each with what was tried; 1 where one of them failed.
+fn report<A: std::fmt::Display>(checks: impl IntoIterator<Item = (String, Result<A, String>)>) -> i32 {
+    for (what, found) in checks {
+        match found {
+            Ok(agreed) => println!("{what}: {agreed}"),
+            Err(e) => {
+                println!("{e}");
+                return 1;
+            }
+        }
+    }
+    0
 }
 
 fn main() {

@@ -222,7 +222,7 @@ pub fn guarded(p: &Parts) -> bool {
 }
 
 /// The actions below n.
-fn below(n: usize) -> Mask {
+pub fn below(n: usize) -> Mask {
     let mut m: Mask = [0; 4];
     m[..n / 64].fill(u64::MAX);
     if n < 256 {

@@ -1,6 +1,6 @@
 //! The trial driver's protocol (TRIALS.md): requests from bytes, and the lines that answer each.
 
-use crate::{oracle, patterns};
+use crate::{lines, oracle, patterns};
 use std::io::Write;
 
 #[derive(Clone, PartialEq, Eq, Debug)]
@@ -13,6 +13,7 @@ pub enum Request {
     Write { bodies: [Vec<u8>; 3], out_len: u16, fill: u8 },
     Pattern { sheet: Vec<u8>, pattern: Vec<u8>, out_len: u16, fill: u8 },
     Children(u8),
+    Line { actions: u8, line: Vec<u8>, out_len: u16, fill: u8 },
 }
 
 fn blob(out: &mut Vec<u8>, b: &[u8]) {
@@ -31,6 +32,7 @@ impl Request {
             Request::Write { .. } => 6,
             Request::Pattern { .. } => 7,
             Request::Children(_) => 8,
+            Request::Line { .. } => 9,
         }
     }
 
@@ -61,6 +63,12 @@ impl Request {
                 out.push(*fill);
             }
             Request::Children(kind) => out.push(*kind),
+            Request::Line { actions, line, out_len, fill } => {
+                out.push(*actions);
+                blob(out, line);
+                out.extend(out_len.to_le_bytes());
+                out.push(*fill);
+            }
         }
     }
 }
@@ -75,6 +83,7 @@ pub enum View<'a> {
     Write { bodies: [&'a [u8]; 3], out_len: usize, fill: u8 },
     Pattern { sheet: &'a [u8], pattern: &'a [u8], out_len: usize, fill: u8 },
     Children(u8),
+    Line { actions: u8, line: &'a [u8], out_len: usize, fill: u8 },
 }
 
 pub struct Input<'a> {
@@ -115,6 +124,7 @@ impl<'a> Input<'a> {
             },
             7 => View::Pattern { sheet: self.blob()?, pattern: self.blob()?, out_len: self.word()?, fill: self.byte()? },
             8 => View::Children(self.byte()?),
+            9 => View::Line { actions: self.byte()?, line: self.blob()?, out_len: self.word()?, fill: self.byte()? },
             _ => return None,
         })
     }
@@ -193,6 +203,16 @@ pub fn answer(request: &View, out: &mut Vec<u8>) {
             Ok(())
         }
         View::Children(kind) => writeln!(out, "children {}", oracle::children(*kind)),
+        View::Line { actions, line, out_len, fill } => {
+            let mut buffer = vec![*fill; *out_len];
+            let ((n, p), len) = match lines::read(*actions, line, &mut buffer) {
+                Ok(len) => ((0, 0), len),
+                Err(r) => (r, 0),
+            };
+            let _ = writeln!(out, "line {n} {p} {len}");
+            hex("out", &buffer, out);
+            Ok(())
+        }
     };
 }
 

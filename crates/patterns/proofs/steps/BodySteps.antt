@@ -1,14 +1,14 @@
 -- A readable pattern is answered: its second parts are noted, it is put before the rule, and the nodes made are written as a rule body.
-use Prim.Native.Nat.{ℕ, suc, _+_, _*_, _<_, _≤_}
-use mathlib.Core.Path.{_≡_, refl, sym, _∙_, ap, ap₂, subst}
+use Prim.Native.Nat.{ℕ, _+_, _*_, _<_, _≤_}
+use mathlib.Core.Path.{_≡_, refl, sym, _∙_, ap, subst}
 use mathlib.Core.Bool.{Bool, true, false}
 use mathlib.Core.List.{List, [], _∷_, _++_, append-nil}
 use mathlib.Core.Logic.{_⊎_, inl, inr}
 use native.Mathlib.Omega.{arith}
 use native.Mathlib.Decide.{decLt}
 use lib.Dec.{eqb}
-use lib.ListN.{length, set, take, drop}
-use lib.Seq.{drop-at, length-take-le, take-length}
+use lib.ListN.{length, take, drop}
+use lib.Seq.{drop-at, length-take-le}
 use Rattle.sheet.specs.Bytes.{byte}
 use Rattle.sheet.specs.Rule.{oneIf}
 use Rattle.calculus.specs.Trees.{Tree, treeSize, binders, nodesFrom, encode, treeOf}
@@ -17,7 +17,7 @@ use Rattle.calculus.proofs.trees.Encoding.{nodes-length}
 use Rattle.patterns.specs.Patterns.{Pattern, written, patternBytes}
 use Rattle.patterns.specs.Translation.{raised, before, translation}
 use Rattle.patterns.specs.Translating.{answerTree, leaves}
-use Rattle.patterns.specs.internal.SecondParts.{PartAt, AnyPlace, Noted, PartHere, SecondsNoted}
+use Rattle.patterns.specs.internal.SecondParts.{PartAt, AnyPlace, PartHere, SecondsNoted}
 use Rattle.patterns.specs.internal.Nodes.{Followed, Exceeds, Progressed}
 use Rattle.patterns.specs.internal.Putting.{everyOf, Follows, PartRequires, PartPut}
 use Rattle.patterns.specs.internal.Answering.{BodyWritten, Readable, BodyAnswered}
@@ -57,20 +57,6 @@ module _ {t : Tree} {made made′ : List ℕ} {n b : ℕ} (f : Followed t 0 0 ma
   body-length : length (encode t) ≡ 1 + 3 * n
   unfolding encode
   body-length = let i = nodes-length 0 t in omega (arith, f .nodes-are)
-
--- the front of made copied to the front of the output, and then the number of nodes put before it
-pub body-copied : (made out last : List ℕ) (n k : ℕ) → k ≡ 1 + 3 * n → 1 + 3 * n ≤ length made
-    → last ≡ take (length (take k made)) (take k made) ++ drop (length (take k made)) out
-    → set last 0 n ≡ (n ∷ drop 1 (take (1 + 3 * n) made)) ++ drop (1 + 3 * n) out
-body-copied [] out last n k e l q = absurd (omega arith)
-body-copied (x ∷ made) out last n k e l q =
-    let front : List ℕ = take (1 + 3 * n) (x ∷ made) in
-    let c : take k (x ∷ made) ≡ front = ap (λ (j : ℕ). take j (x ∷ made)) e in
-    let i : length front ≡ 1 + 3 * n = length-take-le (1 + 3 * n) (x ∷ made) l in
-    let s : 1 + 3 * n ≡ suc (3 * n) = omega arith in
-    let headed : front ≡ x ∷ drop 1 front = ap (λ (j : ℕ). take j (x ∷ made)) s ∙ ap (λ (j : ℕ). x ∷ drop 1 (take j (x ∷ made))) (sym s) in
-    ap (λ (v : List ℕ). set v 0 n)
-    (q ∙ ap (λ (v : List ℕ). take (length v) v ++ drop (length v) out) c ∙ ap₂ (λ (v : List ℕ) (j : ℕ). v ++ drop j out) (take-length front ∙ headed) i)
 
 pub body-short : {made out : List ℕ} {n : ℕ} → length out < 1 + 3 * n → BodyWritten made n out (Refused OutputShort) out
 body-short l = record { wrote = λ u. absurd (omega arith); short = λ u. (refl, refl) }

@@ -3,7 +3,8 @@ use borrow.Author.Needs.{needs}
 use native.Mathlib.Omega.{arith}
 use Prim.Native.Nat.{_+_, _*_, _-_}
 use denote.Ref.{now}
-use Rattle.patterns.proofs.steps.BodySteps.{body-copied, body-short, body-wrote}
+use Rattle.sheet.proofs.steps.Bodies.{body-copied}
+use Rattle.patterns.proofs.steps.BodySteps.{body-short, body-wrote}
 use Rattle.patterns.proofs.translating.write_body.Statement.{statement}
 use Rattle.patterns.proofs.translating.write_body.Tie as tie
 

@@ -1,0 +1,4 @@
+pub mod Totals
+pub mod Bytes
+pub mod Decoding
+pub mod InPlace

@@ -1,0 +1,11 @@
+-- what the pass over the tokens makes
+pub mod Building
+-- which tokens are readable
+pub mod Readable
+-- how bytes spell tokens
+pub mod Decimals
+pub mod Numerals
+pub mod Words
+pub mod Spelling
+-- the whole
+pub mod Readings

@@ -1,0 +1,5 @@
+pub mod Lexemes
+pub mod Checking
+pub mod Building
+pub mod Passing
+pub mod Answering
