@@ -5,7 +5,7 @@ PROGRAM := target/bin/plan_judge
 STORED := target/stored
 DIFFERENTIAL := cd tests/differential && cargo run --release --offline --quiet --
 
-.PHONY: gate check examples trials store runs lines long differential memory benchmark help
+.PHONY: gate check examples trials store runs lines long count differential memory benchmark help
 
 gate: ## prove all from nothing, try the must-fail edits, run the programs (rt ci)
 	.ci/run
@@ -36,6 +36,10 @@ lines: ## compare what 20,000 lines become with what they say of actions
 long: ## read lines of a million words and parentheses on a small stack
 	rt check action_line
 	python3 tests/long_lines.py
+
+count: ## read the counts that some thousands of tables store, and compare with what is right
+	rt check judge
+	python3 tests/stored_count.py
 
 differential: ## compare the trial driver with a program in Rust on 40,000 requests
 	rt check trials

@@ -11,12 +11,10 @@ Run `rt check` first.
 """
 import ctypes
 import sys
-import tempfile
 import threading
 import time
-from pathlib import Path
 
-from native import HERE, archive, run
+from native import SLICE, loaded
 
 SOURCE = '''
 #[no_mangle]
@@ -56,17 +54,11 @@ def lines(n):
     yield 'numbers with `and (` between', b'7 and (' * n + b'7' + b')' * n, 34, b''
 
 
-def loaded(folder):
+def parser():
     """the calls of the library"""
-    held, shared = Path(folder) / 'libmade.a', Path(folder) / 'made.so'
-    held.write_bytes(archive(HERE, SOURCE, 'action_line'))
-    run(folder, 'cc', '-shared', '-o', str(shared), '-Wl,--whole-archive', str(held),
-        '-Wl,--no-whole-archive')
-    made = ctypes.CDLL(str(shared))
+    made = loaded(SOURCE, 'action_line')
     for call, result in ((made.line_number, ctypes.c_uint8), (made.line_length, ctypes.c_size_t)):
-        call.argtypes = [ctypes.c_uint8, ctypes.c_char_p, ctypes.c_size_t, ctypes.c_char_p,
-                         ctypes.c_size_t]
-        call.restype = result
+        call.argtypes, call.restype = [ctypes.c_uint8, *SLICE, *SLICE], result
     return made
 
 
@@ -92,12 +84,11 @@ def compare(made, bad):
 
 
 def main():
-    with tempfile.TemporaryDirectory() as folder:
-        made, bad = loaded(folder), []
-        threading.stack_size(STACK)
-        thread = threading.Thread(target=compare, args=(made, bad))
-        thread.start()
-        thread.join()
+    made, bad = parser(), []
+    threading.stack_size(STACK)
+    thread = threading.Thread(target=compare, args=(made, bad))
+    thread.start()
+    thread.join()
     if not bad:
         print('all answered as they should be, on a stack of %d KiB' % (STACK // 1024))
     return 1 if bad else 0

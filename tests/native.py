@@ -1,4 +1,5 @@
 """Libraries for C over crates of a repository that rt has proved, built in a temporary folder."""
+import ctypes
 import shutil
 import subprocess
 import sys
@@ -6,6 +7,9 @@ import tempfile
 from pathlib import Path
 
 HERE = Path(__file__).resolve().parent.parent
+
+# how a slice of bytes is handed to a function: where it starts, and its length
+SLICE = ctypes.c_char_p, ctypes.c_size_t
 
 
 def run(where, *words):
@@ -43,3 +47,13 @@ def archive(root, source, *names):
         (made / 'crates/made/src/lib.rt').write_text(source.lstrip())
         run(made, 'rt', 'staticlib', 'made')
         return (made / 'target/staticlib/libmade.a').read_bytes()
+
+
+def loaded(source, *names):
+    """the functions of a source file over these crates of this repository, to be called"""
+    with tempfile.TemporaryDirectory() as folder:
+        held, shared = Path(folder) / 'libmade.a', Path(folder) / 'made.so'
+        held.write_bytes(archive(HERE, source, *names))
+        run(folder, 'cc', '-shared', '-o', str(shared), '-Wl,--whole-archive', str(held),
+            '-Wl,--no-whole-archive')
+        return ctypes.CDLL(str(shared))

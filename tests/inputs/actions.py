@@ -1,5 +1,5 @@
 """Action formulas: bodies, and rules with stretches of actions."""
-from inputs.parts import F, T, plan, rule, table
+from inputs.parts import F, T, counted, plan, rule, table
 from oracle.protocol import guard_request, list_request, query_request, reference_request
 from oracle.sheet import sheet_of
 
@@ -54,7 +54,7 @@ def stretches():
         for kind in (4, 5):
             s = sheet_of(fan, entries, rule((kind, e, 1), (9 - kind, 0, 2), (kind - 4, 0, 0)))
             yield reference_request(s)
-            yield list_request(s, 48, 4, [0, 1, 2, 3, 15])
+            yield list_request(s, 52, 4, [0, 1, 2, 3, 15])
     # the stretch, which is entry 31, and the list that it stands for: sixteen actions in 31 entries
     listed = [(2, 20, 0)]
     for a in range(21, 36):
@@ -68,8 +68,8 @@ def stretches():
             s = sheet_of(run, table(*listed, (6, 20, 35)), r)
             yield guard_request(s)
             yield reference_request(s)
-            yield list_request(s, 108, 255, [0, 1, 2, 3, 4, 5, 6])
-            yield query_request(s, 0, bytes(i % 5 % 3 for i in range(108)))
+            yield list_request(s, 112, 255, [0, 1, 2, 3, 4, 5, 6])
+            yield query_request(s, 0, counted([i % 5 % 3 for i in range(108)]))
     # a loop by the actions of a stretch, and one by the actions outside it
     loops = plan(2, 3, [(0, 1, 1), (1, 1, 0), (1, 2, 1)])
     for x, y in ((0, 0), (0, 1), (1, 1), (1, 2), (2, 2)):
@@ -78,4 +78,4 @@ def stretches():
                 s = sheet_of(loops, table((6, x, y), (5, 0, 0)),
                              rule((kind, 0, 1), (modal, e, 2), (6, 0, 0)))
                 yield reference_request(s)
-                yield list_request(s, 12, 1, [0, 1, 2])
+                yield list_request(s, 16, 1, [0, 1, 2])

@@ -1,5 +1,5 @@
 """Bodies, sheets and requests made at random."""
-from inputs.parts import plan, rule, table
+from inputs.parts import counted, plan, rule, table
 from oracle.lines import line_body
 from oracle.patterns import translate
 from oracle.protocol import (
@@ -63,25 +63,41 @@ def random_stretch(rng):
     return sorted((rng.randrange(6), rng.randrange(6)))
 
 
-def random_judging(rng, most=(3, 8, 16)):
-    """an accepted sheet, its guard check, its word, a list, a query on a table from elsewhere"""
+def random_sheet(rng, most):
+    """of few states, accepted unless it has a seventh binder"""
     states = rng.randrange(1, 6)
     p = plan(states, 6, random_transitions(rng, states, rng.randrange(10)))
     first, last = random_stretch(rng)
     a = table(rng.choice(((2, first, 0), (6, first, last))), (1, 0, 0), (5, 0, 0),
               (rng.choice((3, 4)), 2, 0))
-    s = sheet_of(p, a, random_rule(rng, rng.choice(most)))
+    return sheet_of(p, a, random_rule(rng, rng.choice(most)))
+
+
+def random_states(rng, sheet):
+    """for a list of queries: the plan's, and the first that it does not have"""
+    return [rng.randrange(sheet.states + 1) for _ in range(rng.randrange(1, 7))]
+
+
+def random_table(rng, cells):
+    """cells of any value; the count is wrong now and then, by a little or in one of its bytes"""
+    often, off = rng.choice((0, 0.5, 0.9)), 0
+    if rng.random() < 0.3:
+        off = rng.choice((1, -1, 3, -3, 256, -256, 65536, 1 << 24))
+    return counted([0 if rng.random() < often else rng.randrange(3) for _ in range(cells)], off)
+
+
+def random_judging(rng, most=(3, 8, 16)):
+    """an accepted sheet, its guard check, its word, a list, a query on a table from elsewhere"""
+    s = random_sheet(rng, most)
     try:
-        size = Sheet(s).cells()
+        sheet = Sheet(s)
     except Refused:
         return
     yield guard_request(s)
     yield reference_request(s)
-    yield list_request(s, size + rng.randrange(2), rng.randrange(256),
-                       [rng.randrange(states + 1) for _ in range(rng.randrange(1, 7))])
-    often = rng.choice((0, 0.5, 0.9))
-    yield query_request(s, rng.randrange(states),
-                        bytes(0 if rng.random() < often else rng.randrange(3) for _ in range(size)))
+    yield list_request(s, sheet.table_size() + rng.randrange(2), rng.randrange(256),
+                       random_states(rng, sheet))
+    yield query_request(s, rng.randrange(sheet.states), random_table(rng, sheet.cells()))
 
 
 def damaged(rng, b):
@@ -120,7 +136,8 @@ def random_list(rng):
     a, r = table((2, 0, 0), (5, 0, 0), (6, 1, 3)), random_rule(rng, rng.choice((1, 5, 12)))
     if accepted(p, a, r):
         s = sheet_of(p, a, r)
-        yield list_request(s, Sheet(s).cells(), 3, [rng.randrange(states + 1) for _ in range(20)])
+        yield list_request(s, Sheet(s).table_size(), 3,
+                           [rng.randrange(states + 1) for _ in range(20)])
 
 
 def random_pattern(rng, entries, items):

@@ -5,7 +5,8 @@ from inputs.actions import stretches
 from inputs.chance import random_judging
 from inputs.loops import with_loops
 from inputs.parts import (
-    F, GREATEST_X, K, K8, LEAST_X, LONG, LONG_ACTIONS, TRUE, plan, refusals, rule, set_at, table)
+    F, GREATEST_X, K, K8, LEAST_X, LONG, LONG_ACTIONS, TRUE, counted, plan, refusals, rule, set_at,
+    table)
 from oracle.protocol import guard_request, list_request, query_request, reference_request
 from oracle.rows import Sheet, query
 from oracle.sheet import sheet_of
@@ -21,39 +22,39 @@ def refused_sheets():
 
 
 def lists():
-    """refused states among others, a state again, none at all, a buffer longer than the cells"""
-    yield list_request(K, 108, 2, [])
+    """refused states among others, a state again, none at all, a buffer longer than the table"""
     yield list_request(K, 0, 2, [])
     yield list_request(K, 0, 2, [0, 3])
-    yield list_request(K, 120, 77, [0, 3, 1, 255, 2, 0, 1, 2])
-    yield list_request(K, 109, 3, [2, 128, 1, 0, 3])
+    yield list_request(K, 124, 77, [0, 3, 1, 255, 2, 0, 1, 2])
+    yield list_request(K, 113, 3, [2, 128, 1, 0, 3])
     for order in ([2, 1, 0], [1, 0, 2], [2, 0], [1], [2, 2, 2]):
         for s in (K, K8):
-            yield list_request(s, 108, 9, order)
+            yield list_request(s, 112, 9, order)
     # each choice of K's two binders
     for kinds in ((7, 7), (7, 8), (8, 7), (8, 8)):
         s = set_at(set_at(K, 38, kinds[0]), 38 + 21, kinds[1])
         yield guard_request(s)
         yield reference_request(s)
-        yield list_request(s, 108, 0, [0, 1, 2])
+        yield list_request(s, 112, 0, [0, 1, 2])
 
 
 def tables():
     """one query on a table that a list leaves, and on tables from elsewhere"""
     for s in (K, K8):
-        tab = bytearray(108)
+        tab = bytearray(112)
         for state in (2, 1, 0, 2):
             yield query_request(s, state, bytes(tab))
             query(s, state, tab)
-    # all of one value, and a byte over 2 at either end and past the cells; short ones
+    # cells all of one value, and a byte over 2 at either end and past the count; short ones
     for b in (0, 1, 2, 3, 255):
         for s in (K, LEAST_X, GREATEST_X):
-            size = Sheet(s).cells()
-            yield query_request(s, 0, bytes([b]) * size)
-            for at in (0, size - 1, size):
-                yield query_request(s, 2, set_at(bytes(size) + b'\1', at, b))
-            yield query_request(s, 1, bytes([b]) * (size - 1))
-            yield query_request(s, 3, bytes([b]) * (size - 1))
+            cells = Sheet(s).cells()
+            yield query_request(s, 0, counted(bytes([b]) * cells))
+            for at in (0, cells - 1):
+                yield query_request(s, 2, counted(set_at(bytes(cells), at, b)) + b'\1')
+            yield query_request(s, 2, counted(bytes(cells)) + bytes([b]))
+            yield query_request(s, 1, bytes([b]) * (cells + 3))
+            yield query_request(s, 3, bytes([b]) * (cells + 3))
 
 
 def formulas():
@@ -67,7 +68,7 @@ def formulas():
         for kind in (4, 5):
             s = sheet_of(fan, entries, rule((kind, e, 1), (9 - kind, 1, 2), (kind - 4, 0, 0)))
             yield reference_request(s)
-            yield list_request(s, 18, 4, [0, 1, 4])
+            yield list_request(s, 22, 4, [0, 1, 4])
 
 
 def largest():
@@ -82,7 +83,7 @@ def largest():
     r = rule((7, 0, 1), (2, 2, 4), (4, 31, 3), (6, 0, 0), (5, 3, 5), F)
     s = sheet_of(dense, LONG_ACTIONS, r)
     yield guard_request(s)
-    yield list_request(s, 1536, 5, [0, 126, 127])
+    yield list_request(s, 1540, 5, [0, 126, 127])
     wide = plan(64, 1, [(s, 0, 63) for s in range(64)])
     for kind in (7, 8):
         yield reference_request(sheet_of(wide, TRUE, rule((kind, 0, 1), (4, 0, 2), (6, 0, 0))))

@@ -1,5 +1,5 @@
 """Plans with loops, and which of their states a loop can be reached from."""
-from inputs.parts import K_ACTIONS, K_RULE, T, plan, rule, table
+from inputs.parts import K_ACTIONS, K_RULE, T, counted, plan, rule, table
 from oracle.protocol import list_request
 from oracle.sheet import sheet_of
 
@@ -76,13 +76,13 @@ def loops_to_try():
         s = sheet_of(plan(states, 1, acting(pairs, lambda i: 0)), table(), rule(T))
         given = ''.join('query 12 0 false 0|' if q in refused else 'query 0 0 true 1|'
                         for q in range(states))
-        left = ''.join('00' if q in refused else '02' for q in range(states))
-        yield list_request(s, states + 1, 9, range(states + 1)), (
-            'clear 0 0|%squery 11 0 false 0|table %s09|' % (given, left))
+        left = [0 if q in refused else 2 for q in range(states)]
+        yield list_request(s, states + 5, 9, range(states + 1)), (
+            'clear 0 0|%squery 11 0 false 0|table %s09|' % (given, counted(left).hex()))
     # K with loops that its states do not lead to gives what K gives
     for more in ([(3, 0, 3)], [(3, 0, 4), (4, 2, 3)], [(3, 1, 0), (3, 2, 3), (4, 0, 3)]):
         s = sheet_of(plan(5, 3, [(0, 1, 1), (1, 2, 2)] + more), K_ACTIONS, K_RULE)
         last = 'query 0 0 false 9|' if len(more) == 1 else 'query 12 0 false 0|'
-        yield list_request(s, 180, 4, [0, 1, 3, 2, 4, 5]), (
+        yield list_request(s, 184, 4, [0, 1, 3, 2, 4, 5]), (
             'clear 0 0|query 0 0 true 17|query 0 0 true 0|query 12 0 false 0|query 0 0 false 9|'
             + last + 'query 11 0 false 0|')

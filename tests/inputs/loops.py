@@ -1,6 +1,7 @@
 """Rules of every shape on plans with loops: requests 3 to 5."""
 from inputs.loop_plans import acting, loop_plans
-from inputs.parts import F, K_ACTIONS, K_RULE, SELF, T, TRUE, many, plan, rule, set_at, table
+from inputs.parts import (
+    F, K_ACTIONS, K_RULE, SELF, T, TRUE, counted, many, plan, rule, set_at, table)
 from oracle.protocol import list_request, query_request, reference_request
 from oracle.rows import Sheet
 from oracle.sheet import sheet_of
@@ -32,43 +33,43 @@ def small_plans():
         for r in guarded if i % 3 == 0 else [others[i % 3 - 1](kind)]:
             s = sheet_of(p, FIRST_TWO, r)
             yield reference_request(s)
-            yield list_request(s, Sheet(s).cells(), i, [*reversed(range(states)), states, 0])
+            yield list_request(s, Sheet(s).table_size(), i, [*reversed(range(states)), states, 0])
     # K's plan with one transition more, at each of its states
     for more in ((0, 0, 0), (1, 0, 0), (1, 0, 1), (2, 0, 2)):
         p = plan(3, 3, sorted([(0, 1, 1), (1, 2, 2), more]))
         for r in (K_RULE, set_at(K_RULE, 1, 8)):
-            yield list_request(sheet_of(p, K_ACTIONS, r), 108, 0, [2, 1, 0])
+            yield list_request(sheet_of(p, K_ACTIONS, r), 112, 0, [2, 1, 0])
     # each plan of two states
     for chosen in range(16):
         pairs = [(k // 2, k % 2) for k in range(4) if chosen >> k & 1]
         p = plan(2, 3, acting(pairs, lambda k: k % 2))
         s = sheet_of(p, FIRST_TWO, modal_rule(7 + chosen % 2))
-        yield list_request(s, 7, 5, [1, 2, 0, 1])
+        yield list_request(s, 11, 5, [1, 2, 0, 1])
 
 
 def mixed_lists():
-    """States refused by 11 and by 12 among others, in one table. 11 comes before 12, 12 before 20
-    and 21, and a refused query changes nothing."""
+    """States refused by 11 and by 12 among others, in one table. 11 comes before 12, 12 before 20,
+    21 and 35, and a refused query changes nothing."""
     mixed = plan(6, 3, [(0, 0, 1), (0, 0, 3), (1, 0, 0), (2, 0, 0), (2, 1, 3), (3, 1, 4), (5, 0, 3),
                         (5, 2, 5)])
     for kind in (7, 8):
         s = sheet_of(mixed, FIRST_TWO, guarded_rule(kind))
         for order in ([3, 0, 6, 4, 255, 2, 5, 3], [0, 3, 6, 4], [6, 5, 4, 3, 2, 1, 0],
                       [4, 128, 1, 3, 3, 1]):
-            for size in (71, 75):
+            for size in (75, 79):
                 yield list_request(s, size, 3, order)
         # tables from elsewhere: the cells of the states ahead of a loop, or of the others, all of
         # one value; then cells of any value
         for state in (0, 3, 5):
             for looping, others in ((1, 0), (2, 0), (0, 1), (0, 2), (3, 0), (0, 3)):
                 values = [others if q in (3, 4) else looping for q in range(6)]
-                yield query_request(s, state, bytes(v for v in values for _ in range(12)))
-            yield query_request(s, state, bytes(k % 7 % 3 for k in range(72)))
-            yield query_request(s, state, bytes(k % 5 % 3 if k // 12 in (3, 4) else 1 + k % 2
-                                                for k in range(72)))
-    # on tables too short, with bytes over 2, and with one past the cells
+                yield query_request(s, state, counted([v for v in values for _ in range(12)]))
+            yield query_request(s, state, counted([k % 7 % 3 for k in range(72)]))
+            yield query_request(s, state, counted([k % 5 % 3 if k // 12 in (3, 4) else 1 + k % 2
+                                                   for k in range(72)]))
+    # on tables too short, with bytes over 2, with a wrong count, and with a byte past the count
     for state in (0, 2, 3, 5, 6):
-        for tab in (b'', b'\3' * 71, b'\3' * 72, bytes(72) + b'\3'):
+        for tab in (b'', b'\3' * 75, b'\3' * 76, counted(bytes(72), 1), bytes(76) + b'\3'):
             yield query_request(s, state, tab)
 
 
@@ -86,7 +87,7 @@ def unseen_actions():
                   rule((8, 0, 1), (6, 0, 0)), rule((5, 0, 1), F), rule((4, 2, 1), T),
                   rule((3, 1, 2), F, (4, 0, 3), T)):
             s = sheet_of(plan(3, 3, transitions), entries, r)
-            yield list_request(s, Sheet(s).cells(), 255, [0, 1, 2, 3])
+            yield list_request(s, Sheet(s).table_size(), 255, [0, 1, 2, 3])
 
 
 def with_other_faults():
@@ -105,11 +106,11 @@ def long_ways():
     for pairs in (up + [(127, 127)], up + [(126, 126)], up + [(0, 0)], up + [(64, 63)],
                   down + [(0, 0)], down + [(1, 1)], down + [(127, 127)], half):
         s = sheet_of(plan(128, 1, acting(pairs, lambda k: 0)), TRUE, rule((4, 0, 1), T))
-        yield list_request(s, 256, 1, [127, 126, 0, 1, 2, 62, 63, 64, 65, 66, 125, 128])
+        yield list_request(s, 260, 1, [127, 126, 0, 1, 2, 62, 63, 64, 65, 66, 125, 128])
     # transitions past number 255, and a loop that only the first or the last of sixteen leads to
     for at in (127, 112):
         s = sheet_of(plan(128, 16, many(300) + [(at, 0, at)]), table(), rule(T))
-        yield list_request(s, 128, 4, [0, 15, 17, 18, 19, 111, 112, 113, 126, 127])
+        yield list_request(s, 132, 4, [0, 15, 17, 18, 19, 111, 112, 113, 126, 127])
 
 
 def with_loops():

@@ -1,5 +1,5 @@
-"""Bodies and sheets that the cases are made of."""
-from oracle.sheet import sheet_of, two
+"""Bodies, sheets and tables that the cases are made of."""
+from oracle.sheet import four, sheet_of, two
 
 
 def plan(states, actions, transitions):
@@ -38,6 +38,11 @@ SELF = plan(1, 1, [(0, 0, 0)])
 
 def set_at(b, at, value):
     return b[:at] + bytes([value]) + b[at + 1:]
+
+
+def counted(cells, off=0):
+    """a table: cells, then how many of them are filled; the count may be off by a number"""
+    return bytes(cells) + four(sum(b in (1, 2) for b in cells) + off & 0xffffffff)
 
 
 K8 = set_at(K, 38, 8)

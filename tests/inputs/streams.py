@@ -4,13 +4,15 @@ import random
 from inputs.bodies import reading_and_writing
 from inputs.chance import (
     random_judging, random_list, random_reading, random_translation, random_typing)
+from inputs.counts import counts_to_try
 from inputs.judging import judgings
 from inputs.line_limits import longest_lines
 from inputs.line_page import lines_to_try
 from inputs.lines import judged_lines, lines, read_lines
 from inputs.loop_plans import loops_to_try
 from inputs.parts import (
-    K, K_ACTIONS, K_PLAN, K_RULE, LONG, LONG_ACTIONS, LONG_PLAN, T, TRUE, deepest, plan, rule)
+    K, K_ACTIONS, K_PLAN, K_RULE, LONG, LONG_ACTIONS, LONG_PLAN, T, TRUE, counted, deepest, plan,
+    rule)
 from inputs.pattern_page import patterns_to_try
 from inputs.patterns import judged_translations, patterns
 from inputs.rules import children_to_try
@@ -30,7 +32,7 @@ def expected(*given):
 
 def stored():
     yield from reading_and_writing()
-    yield from expected(*children_to_try(), *to_try(), *loops_to_try())
+    yield from expected(*children_to_try(), *to_try(), *loops_to_try(), *counts_to_try())
     yield from judgings()
     yield from expected(*patterns_to_try(), *judged_translations())
     yield from patterns()
@@ -58,6 +60,8 @@ def large():
     yield list_request(deepest(), 65535, 3, range(129))
     yield query_request(K, 0, bytes(65535))
     yield query_request(K, 0, full)
+    for off in (0, -1, 65536):
+        yield query_request(deepest(), 0, counted(b'\2' * 57344, off))
     yield guard_request(full)
     yield reference_request(full)
     yield list_request(K, 65535, 3, bytes(65535))
@@ -70,9 +74,9 @@ def large():
             r = rule((kind, 0, 1), (3, 2, 4), (5, 0, 3), (6, 0, 0), (5, 0, 5), (4, 0, 6), T)
             s = sheet_of(p, TRUE, r)
             yield reference_request(s)
-            yield list_request(s, 42, kind, rng.sample(range(4), 4))
+            yield list_request(s, 46, kind, rng.sample(range(4), 4))
             yield query_request(s, rng.randrange(3),
-                                bytes(rng.choice((0, 0, 1, 2)) for _ in range(42)))
+                                counted([rng.choice((0, 0, 1, 2)) for _ in range(42)]))
     for _ in range(200):
         yield from random_list(rng)
     yield pattern_request(K, full, 65535, 203)
@@ -87,7 +91,7 @@ def large():
     # about the longest plan, with three states that lead to no loop
     transitions = [t for t in triples(LONG_PLAN, 4) if t[0] not in (50, 70, 100)]
     p = plan(128, 255, sorted([*transitions, (50, 0, 70), (70, 254, 100)]))
-    yield list_request(sheet_of(p, LONG_ACTIONS, rule((4, 1, 1), T)), 256, 0, range(129))
+    yield list_request(sheet_of(p, LONG_ACTIONS, rule((4, 1, 1), T)), 260, 0, range(129))
     for line in (*longest_lines(), full):
         yield line_request(9, line, 97, 206)
     yield line_request(9, b'not 3 and 4 or 5', 65535, 207)

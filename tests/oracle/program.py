@@ -3,7 +3,7 @@ from oracle.protocol import yes
 from oracle.rows import clear, query
 from oracle.sheet import Refused
 
-ROOM = 57344                            # the largest table
+ROOM = 57348                            # the largest table
 
 
 def line_of(sheet):

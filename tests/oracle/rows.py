@@ -1,7 +1,8 @@
-"""Rows, need and solution; clearing and query; the loops that can be reached from a state."""
+"""Rows, need and solution; clearing, query and the stored count; the loops that can be reached from
+a state."""
 import functools
 
-from oracle.sheet import Refused, bodies_at, read_sheet, triples
+from oracle.sheet import Refused, bodies_at, four, read_sheet, triples
 
 
 @functools.lru_cache(maxsize=1)         # a list asks for the same plan again and again
@@ -44,6 +45,19 @@ class Sheet:
 
     def cells(self):
         return self.states * len(self.nodes) * (len(self.binders) + 1)
+
+    def table_size(self):
+        """a byte for each cell, then the count of those filled"""
+        return self.cells() + 4
+
+    def stored_count(self, tab):
+        return int.from_bytes(tab[self.cells():self.table_size()], 'little')
+
+    def store_count(self, tab, count):
+        tab[self.cells():self.table_size()] = four(count)
+
+    def filled(self, tab):
+        return sum(b in (1, 2) for b in tab[:self.cells()])
 
     def place(self, cell):
         mark, node, state = cell
@@ -107,25 +121,36 @@ def solve(sheet, table, start):
 
 
 def clear(s, tab):
-    size = Sheet(s).cells()
+    size = Sheet(s).table_size()
     if len(tab) < size:
         raise Refused(20)
     tab[:size] = bytes(size)
 
 
 def query(s, state, tab):
-    """verdict and visits; fills the table"""
+    """verdict and visits; fills the table and adds the visits to its count"""
     sheet = Sheet(s)
     if state >= sheet.states:
         raise Refused(11)
     if sheet.loop_reachable(state):
         raise Refused(12)
-    if len(tab) < sheet.cells():
+    if len(tab) < sheet.table_size():
         raise Refused(20)
     if any(b > 2 for b in tab[:sheet.cells()]):
         raise Refused(21)
+    if sheet.stored_count(tab) != sheet.filled(tab):
+        raise Refused(35)
     solution, need = solve(sheet, tab, (0, 0, state))
     empty = [c for c in need if tab[sheet.place(c)] == 0]
     for c in empty:
         tab[sheet.place(c)] = 2 if solution[c] else 1
+    sheet.store_count(tab, sheet.stored_count(tab) + len(empty))
     return solution[0, 0, state], len(empty)
+
+
+def count(s, tab):
+    """the stored count as it stands, whatever the cells hold"""
+    sheet = Sheet(s)
+    if len(tab) < sheet.table_size():
+        raise Refused(20)
+    return sheet.stored_count(tab)

@@ -14,6 +14,10 @@ def two(n):
     return bytes([n & 255, n >> 8])
 
 
+def four(n):
+    return n.to_bytes(4, 'little')
+
+
 def triples(body, start):
     return [tuple(body[i:i + 3]) for i in range(start, len(body), 3)]
 

@@ -4,3 +4,4 @@ pub mod CellRows
 pub mod SuccessorCells
 pub mod ValidCells
 pub mod Ranks
+pub mod CountLayout

@@ -1,4 +1,6 @@
 pub mod ClearSteps
+pub mod CountSteps
+pub mod ScanSteps
 pub mod QueryAnswers
 pub mod PackedVerdicts
 pub mod Products

@@ -1,10 +1,11 @@
--- Document 01, "Rows": the cells of a sheet, their rows and their places in the table. The definitions speak of the bytes of the sheet's
--- three bodies: p the plan, a the action formulas, r the rule.
+-- Document 01, "Rows": the cells of a sheet, their rows and their places in the table; document 02 (f): how long the table is. The
+-- definitions speak of the bytes of the sheet's three bodies: p the plan, a the action formulas, r the rule.
 use Prim.Native.Nat.{ℕ, zero, suc, _+_, _*_, _<_, _/_, _%_}
 use mathlib.Core.Path.{_≡_}
 use mathlib.Core.Bool.{Bool, true, false, _&&_}
 use mathlib.Core.List.{List, [], _∷_}
 use lib.Dec.{eqb, ltb}
+use lib.ListN.{take}
 use Rattle.sheet.specs.Bytes.{pick}
 use Rattle.sheet.specs.Contents.{planBody, actionsBody, ruleBody}
 use Rattle.sheet.specs.Plan.{stateCount, actionCount}
@@ -118,15 +119,23 @@ marks r = binderCount r + 1
 abbrev pub cellCount : List ℕ → List ℕ → ℕ
 cellCount p r = stateCount p * nodeCount r * marks r
 
--- "the first S × N × (B + 1) bytes": the bytes of the cells of a sheet, one each
+-- "the first S × N × (B + 1) bytes": how many bytes the cells of a sheet have, one each
 abbrev pub cellBytes : List ℕ → ℕ
 cellBytes s = cellCount (planBody s) (ruleBody s)
 
--- the bytes of a table that has so many bytes of cells: nothing follows the cells
-abbrev pub tableBytesFor : ℕ → ℕ
-tableBytesFor cells = cells
+-- the cells of a sheet's table, a byte each: "the first S × N × (B + 1) bytes of a lent buffer"
+abbrev pub cellsIn : List ℕ → List ℕ → List ℕ
+cellsIn s t = take (cellBytes s) t
 
--- the bytes of the whole table of a sheet; "20: table buffer too short"
+-- document 02 (f): "Four bytes after the cells"
+abbrev pub countBytes : ℕ
+countBytes = 4
+
+-- how many bytes a table has that has so many bytes of cells: these, and the count after them
+abbrev pub tableBytesFor : ℕ → ℕ
+tableBytesFor size = size + countBytes
+
+-- how many bytes the whole table of a sheet has; "20: table buffer too short", which "now means four bytes more"
 abbrev pub tableBytes : List ℕ → ℕ
 tableBytes s = tableBytesFor (cellBytes s)
 

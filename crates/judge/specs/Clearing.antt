@@ -26,7 +26,8 @@ answerCleared (Failed r) = Refused r
 unfoldable pub clearedOf : List ℕ → List ℕ → Cleared
 clearedOf s t = answerCleared (clearCheck s t)
 
--- "Clearing sets them to 0"; "Bytes after these are never changed"; "A refused call .. changes no buffer"
+-- "Clearing sets them to 0", the cells and, by document 02 (f), the count after them; "bytes past them never change"; "A refused call ..
+-- changes no buffer"
 abbrev pub emptied : ℕ → List ℕ → Check → List ℕ
 emptied size t Passed = replicate size 0 ++ drop size t
 emptied size t (Failed r) = t

@@ -1,6 +1,6 @@
--- Demand 3: one statement about whole lists of queries. Document 01, "Lists of queries", and document 02 (b). It is said of what clearing
--- and query are defined to answer and leave (`demand3` of proofs/statements/Demand3.antt), and of the running calls (`delivered` of
--- proofs/statements/RunningCalls.antt).
+-- Demand 3: one statement about whole lists of queries. Document 01, "Lists of queries", and document 02 (b) and (f). It is said of what
+-- clearing and query are defined to answer and leave (`demand3` of proofs/statements/Demand3.antt), and of the running calls (`delivered`
+-- of proofs/statements/RunningCalls.antt).
 use Prim.Native.Nat.{ℕ, _+_, _*_, _≤_}
 use mathlib.Core.Path.{_≡_}
 use mathlib.Core.Bool.{Bool, true, false}
@@ -16,16 +16,19 @@ use Rattle.calculus.specs.Verdict.{Verdict}
 use Rattle.calculus.specs.Exchange.{exchanged}
 use Rattle.calculus.specs.GuardCheck.{guardedRule}
 use Rattle.rows.specs.Rows.{Needed}
-use Rattle.rows.specs.Tables.{byteAt, filled, byteOf, count}
+use Rattle.rows.specs.Tables.{byteAt, filled, byteOf}
 use Rattle.graph.specs.Loops.{LoopReachable}
 use Rattle.graph.specs.Successors.{successors}
-use Rattle.judge.specs.Cells.{Cell, cell, writtenRows, cellBytes, tableBytes, InTable, TableLayout}
+use Rattle.judge.specs.Cells.{Cell, cell, writtenRows, tableBytes, InTable, TableLayout}
+use Rattle.judge.specs.StoredCount.{storedCount, filledCells}
 use Rattle.judge.specs.Clearing.{tableCleared, reportedClear, Clears}
 use Rattle.judge.specs.Querying.{QueryReport}
+use Rattle.judge.specs.Counting.{reportedCount, ReadsCount}
 use Rattle.judge.specs.OneSolution.{ComesTo, OneSolution}
 use Rattle.judge.specs.QueryCorrect.{cellByte}
 use Rattle.judge.specs.Lists.{JustCleared, reports, tableAfter, Calls, Reported, SameAnswers, visitsOf, judgedStates}
 use Rattle.judge.specs.declared.Cleared.{Cleared}
+use Rattle.judge.specs.declared.Counted.{Counted}
 
 -- Document 02 (b): "a state that the plan doesn't have or from which a loop can be reached"
 abbrev pub RefusedState : List ℕ → ℕ → Type 0
@@ -74,17 +77,20 @@ pub record ListCorrect (s t states : List ℕ) (answers : List QueryReport) (lef
   pub solved : (c : Cell) → InTable s c → filled (cellByte s left c) ≡ true → cellByte s left c ≡ byteOf (solution c)
   -- every other cell is empty
   pub empties : (c : Cell) → InTable s c → filled (cellByte s left c) ≡ false → cellByte s left c ≡ 0
-  -- "Bytes after these are never changed."
-  pub after-cells : (i : ℕ) → tableBytes s ≤ i → byteAt left i ≡ byteAt t i
+  -- document 02 (f): "bytes past them never change"
+  pub past : (i : ℕ) → tableBytes s ≤ i → byteAt left i ≡ byteAt t i
   pub length-kept : length left ≡ length t
   -- the visits' sum is the number of filled cells
-  pub sum : visitsOf answers ≡ count (cellBytes s) (λ i. filled (byteAt left i))
+  pub sum : visitsOf answers ≡ filledCells s left
+  -- document 02 (f): "After every list of demand 3 the stored count is the sum of the visits its queries reported", and so, by `sum`, "the
+  -- number of filled cells"
+  pub stored : storedCount s left ≡ visitsOf answers
   -- and at most states × nodes × (binders + 1)
   pub at-most : visitsOf answers ≤ stateCount (planBody s) * nodeCount (ruleBody s) * (binderCount (ruleBody s) + 1)
 
 -- Demand 3, whole
 pub record Demand3 : Type 0 where
-  -- each byte of the cells is that of one cell: so many cells are filled as bytes of them
+  -- each byte of the cells is that of one cell, so as many cells are filled as of these bytes
   pub layout : TableLayout
   -- "as it does for an accepted sheet on every buffer long enough"
   pub clears : (s t : List ℕ) → sheetCheck s ≡ Passed → tableBytes s ≤ length t → JustCleared s t
@@ -102,3 +108,8 @@ pub record Demand3OfCalls : Type 0 where
   pub lists :
       (s t states : List ℕ) (r : Cleared) (u : List ℕ) (answers : List QueryReport) (left : List ℕ)
       → Clears s t r u → reportedClear r .number ≡ 0 → Calls s u states answers left → ListCorrect s t states answers left
+  -- document 02 (f), "The terminal's progress bar": a call of `stored_count` on the table that the list left gives the sum of the visits
+  pub progress :
+      (s t states : List ℕ) (r : Cleared) (u : List ℕ) (answers : List QueryReport) (left : List ℕ) (a : Counted)
+      → Clears s t r u → reportedClear r .number ≡ 0 → Calls s u states answers left → ReadsCount s left a
+      → reportedCount a ≡ record { number = 0; place = 0; stored = visitsOf answers }

@@ -1,8 +1,11 @@
 -- document 01, "Rows"
 pub mod Cells
+-- document 02 (f)
+pub mod StoredCount
 -- "Guard check, clearing, query"
 pub mod Clearing
 pub mod Querying
+pub mod Counting
 pub mod OneSolution
 pub mod QueryCorrect
 pub mod CallNumbers

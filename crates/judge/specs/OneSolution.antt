@@ -12,11 +12,11 @@ use Rattle.rows.specs.Rows.{Row, Solution}
 use Rattle.rows.specs.Tables.{changed}
 use Rattle.graph.specs.Loops.{Way, Reachable, LoopReachable}
 use Rattle.graph.specs.Successors.{successors}
-use Rattle.judge.specs.Cells.{Cell, cell, CellOf, writtenRows, positionOf}
+use Rattle.judge.specs.Cells.{Cell, cell, CellOf, writtenRows, positionOf, cellsIn}
 
--- "the rows so changed", by a table t
+-- "the rows so changed", by the cells of a table t
 abbrev pub changedRows : List ℕ → List ℕ → Cell → Row Cell
-changedRows s t = changed (positionOf (ruleBody s)) (writtenRows s) t
+changedRows s t = changed (positionOf (ruleBody s)) (writtenRows s) (cellsIn s t)
 
 -- a cell of the sheet, from whose state no loop can be reached
 pub record LoopFreeCell (s : List ℕ) (c : Cell) : Type 0 where

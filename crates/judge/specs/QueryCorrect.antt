@@ -1,6 +1,6 @@
 -- Document 01, "Guard check, clearing, query": what a query gives, fills and reports, said of cells, for every call that is not refused.
 -- The contract (specs/Querying.antt) computes solution and need; here they are what document 01's sentences say.
-use Prim.Native.Nat.{ℕ, _≤_}
+use Prim.Native.Nat.{ℕ, _+_, _≤_}
 use mathlib.Core.Path.{_≡_}
 use mathlib.Core.Bool.{Bool, false, _&&_}
 use mathlib.Core.List.{List}
@@ -10,6 +10,7 @@ use Rattle.sheet.specs.Contents.{ruleBody}
 use Rattle.rows.specs.Rows.{Needed}
 use Rattle.rows.specs.Tables.{byteAt, empty, filled, byteOf, count}
 use Rattle.judge.specs.Cells.{Cell, cell, positionOf, cellBytes, tableBytes, InTable}
+use Rattle.judge.specs.StoredCount.{storedCount, filledCells}
 use Rattle.judge.specs.Querying.{QueryReport, reportedQuery, Queries}
 use Rattle.judge.specs.OneSolution.{changedRows, ComesTo, OneSolution}
 use Rattle.judge.specs.declared.Queried.{Queried}
@@ -34,11 +35,14 @@ pub record QueryCorrect (s : List ℕ) (state : ℕ) (t : List ℕ) (q : QueryRe
   pub others :
       (c : Cell) → InTable s c → (cellByte s t c ≡ 0 → Needed (changedRows s t) solution (cell 0 0 state) c → ⊥)
       → cellByte s u c ≡ cellByte s t c
-  -- "Bytes after these are never changed."
-  pub after-cells : (i : ℕ) → tableBytes s ≤ i → byteAt u i ≡ byteAt t i
+  -- document 02 (f): "bytes past them never change"
+  pub past : (i : ℕ) → tableBytes s ≤ i → byteAt u i ≡ byteAt t i
   pub length-kept : length u ≡ length t
   -- "and reports how many it filled as its visits"
-  pub counts : q .visits ≡ count (cellBytes s) (λ i. empty (byteAt t i) && filled (byteAt u i))
+  pub visits-are : q .visits ≡ count (cellBytes s) (λ i. empty (byteAt t i) && filled (byteAt u i))
+  -- document 02 (f): "every query adds its visits", and the count is again "the number of filled cells"
+  pub count-grows : storedCount s u ≡ storedCount s t + q .visits
+  pub count-right : storedCount s u ≡ filledCells s u
 
 -- of every call of `query`, on any bytes as sheet and table (`queries-correct` of proofs/statements/QueryCorrect.antt)
 pub record QueriesCorrect : Type 0 where

@@ -11,6 +11,7 @@ use Rattle.calculus.specs.GuardCheck.{guardedRule, reportedGuard, Guards}
 use Rattle.calculus.specs.Verdict.{Verdict}
 use Rattle.calculus.specs.KeySheet.{keySheet, K, looped}
 use Rattle.calculus.specs.declared.Guard.{Guard}
+use Rattle.judge.specs.Cells.{tableBytes}
 use Rattle.judge.specs.Clearing.{Clears}
 use Rattle.judge.specs.Querying.{QueryReport, reportedQuery, Queries}
 use Rattle.judge.specs.Lists.{Calls}
@@ -69,12 +70,13 @@ judged verdict visits = record { number = 0; place = 0; verdict = verdict; visit
 abbrev pub refusedBy : ℕ → QueryReport
 refusedBy number = record { number = number; place = 0; verdict = false; visits = 0 }
 
--- on each buffer of this many bytes or more, the calls of `query` for the states, one after the other, after a call of `clear`, report
--- this; and they are what the rows and Table 1 say (specs/Demand3.antt)
-abbrev pub Asked : List ℕ → ℕ → List ℕ → List QueryReport → Type 0
-Asked s size states answers =
-    (t : List ℕ) → size ≤ length t → (r : Cleared) (u : List ℕ) (reported : List QueryReport) (left : List ℕ)
-    → Clears s t r u → Calls s u states reported left → (reported ≡ answers) × ListCorrect s t states answers left
+-- the sheet's table has this many bytes, S × N × (B + 1) and four; on each buffer that is long enough, the calls of `query` for the states,
+-- one after the other, after a call of `clear`, report this; and they are what the rows and Table 1 say (specs/Demand3.antt)
+pub record Asked (s : List ℕ) (size : ℕ) (states : List ℕ) (answers : List QueryReport) : Type 0 where
+  pub table-size : tableBytes s ≡ size
+  pub report :
+      (t : List ℕ) → size ≤ length t → (r : Cleared) (u : List ℕ) (reported : List QueryReport) (left : List ℕ)
+      → Clears s t r u → Calls s u states reported left → (reported ≡ answers) × ListCorrect s t states answers left
 
 -- a call of `query` for state 0, whatever the table, reports this
 abbrev pub AskedAnywhere : List ℕ → QueryReport → Type 0
@@ -89,17 +91,17 @@ pub record WordMeans (s : List ℕ) (word : ℕ) : Type 0 where
 pub record SheetsToTry : Type 0 where
   -- "The key sheet K has 74 bytes"
   pub key-length : length K ≡ 74
-  -- "P1: K, table 108 bytes, state 0: true, 17 visits"
-  pub p1 : Asked K 108 (0 ∷ []) (judged true 17 ∷ [])
+  -- "P1: K, table 108 bytes, state 0: true, 17 visits"; document 02 (f): "four bytes more (112 for P1)"
+  pub p1 : Asked K 112 (0 ∷ []) (judged true 17 ∷ [])
   pub p1-table1 : Verdict K 0
   -- "P2: then state 1: true, 0."
-  pub p2 : Asked K 108 (0 ∷ 1 ∷ []) (judged true 17 ∷ judged true 0 ∷ [])
+  pub p2 : Asked K 112 (0 ∷ 1 ∷ []) (judged true 17 ∷ judged true 0 ∷ [])
   pub p2-table1 : Verdict K 1
   -- "P3: then state 2: false, 9."
-  pub p3 : Asked K 108 (0 ∷ 1 ∷ 2 ∷ []) (judged true 17 ∷ judged true 0 ∷ judged false 9 ∷ [])
+  pub p3 : Asked K 112 (0 ∷ 1 ∷ 2 ∷ []) (judged true 17 ∷ judged true 0 ∷ judged false 9 ∷ [])
   pub p3-table1 : Verdict K 2 → ⊥
   -- "P4: K with its first rule node of kind 8, state 2, cleared: true, 8."
-  pub p4 : Asked K-greatest 108 (2 ∷ []) (judged true 8 ∷ [])
+  pub p4 : Asked K-greatest 112 (2 ∷ []) (judged true 8 ∷ [])
   pub p4-table1 : Verdict K-greatest 2
   -- "P5: K, reference: 3."
   pub p5 : WordMeans K 3
@@ -107,16 +109,16 @@ pub record SheetsToTry : Type 0 where
   pub p6 : guardedRule K ≡ false
   pub p6-call : (r : Guard) → Guards K r → reportedGuard r ≡ record { number = 0; place = 0; answer = false }
   -- "P7: least X.X: false, 2 visits.", at state 0
-  pub p7 : Asked least-self 12 (0 ∷ []) (judged false 2 ∷ [])
+  pub p7 : Asked least-self 16 (0 ∷ []) (judged false 2 ∷ [])
   pub p7-table1 : Verdict least-self 0 → ⊥
   -- "P8: greatest X.X: true, 2.", at state 0
-  pub p8 : Asked greatest-self 12 (0 ∷ []) (judged true 2 ∷ [])
+  pub p8 : Asked greatest-self 16 (0 ∷ []) (judged true 2 ∷ [])
   pub p8-table1 : Verdict greatest-self 0
   -- "P9: "every" with true over F, at an end state: true, 1."
-  pub p9 : Asked every-false 6 (2 ∷ []) (judged true 1 ∷ [])
+  pub p9 : Asked every-false 10 (2 ∷ []) (judged true 1 ∷ [])
   pub p9-table1 : Verdict every-false 2
   -- "P10: "some" with true over T there: false, 1."
-  pub p10 : Asked some-true 6 (2 ∷ []) (judged false 1 ∷ [])
+  pub p10 : Asked some-true 10 (2 ∷ []) (judged false 1 ∷ [])
   pub p10-table1 : Verdict some-true 2 → ⊥
   -- "P11: .. least X of "every" true X: reference 0; greatest: 1. A query: 12.", whatever the table
   pub p11-least : WordMeans least-loop 0
@@ -126,7 +128,7 @@ pub record SheetsToTry : Type 0 where
   -- Document 02 (b), a sheet of our own: refused are 0 and 3, on a loop, 2, which leads to one, and 5, which the plan doesn't have. 1 and 4
   -- are judged, though a loop leads to 1
   pub b-loops :
-      Asked loops-elsewhere 10 (0 ∷ 1 ∷ 2 ∷ 3 ∷ 4 ∷ 1 ∷ 5 ∷ [])
+      Asked loops-elsewhere 14 (0 ∷ 1 ∷ 2 ∷ 3 ∷ 4 ∷ 1 ∷ 5 ∷ [])
       (refusedBy 12 ∷ judged false 2 ∷ refusedBy 12 ∷ refusedBy 12 ∷ judged true 1 ∷ judged false 0 ∷ refusedBy 11 ∷ [])
   pub b-one-table1 : Verdict loops-elsewhere 1 → ⊥
   pub b-four-table1 : Verdict loops-elsewhere 4

@@ -8,7 +8,7 @@ use sheet::Refusal;
 use sheet::reader::check;
 ghost use Rattle.judge.specs.Clearing.{Clears};
 
-// "Clearing sets them to 0; it doesn't look for loops."
+// "Clearing sets them to 0; it doesn't look for loops.": the cells, and the count after them.
 pub fn clear(sheet: &[u8], table: &mut [u8]) -> Cleared
     ensures { λ r. ⌜ Clears (now (sheet .entry)) (now (table .entry)) r (now (table .exit)) ⌝ }
 {
@@ -16,7 +16,8 @@ pub fn clear(sheet: &[u8], table: &mut [u8]) -> Cleared
     match checked {
         Check::Failed(x) => Cleared::Refused(x),
         Check::Passed => {
-            let size = table_bytes_for(cell_bytes(sheet));
+            let cells = cell_bytes(sheet);
+            let size = table_bytes_for(cells);
             if table.len() < size {
                 return Cleared::Refused(Refusal::TableShort);
             }

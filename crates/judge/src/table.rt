@@ -1,8 +1,10 @@
-// The table's bytes: how many there are, where a cell's byte is, what it says, and how it is filled.
+// The table's bytes: how many there are, where a cell's byte is, what it says, and how it is filled; the count after the cells.
+use crate::COUNT_BYTES;
 use crate::index::MARKS_AT;
 use crate::index::NODES_AT;
 use crate::index::number;
 use crate::packed::is_true;
+use crate::widen::byte_as_u32;
 use crate::widen::wide;
 use graph::Index;
 use sheet::Node;
@@ -15,25 +17,24 @@ use sheet::rule::node_count;
 ghost use mathlib.Core.Path.{_≡_};
 ghost use mathlib.Core.List.{_++_};
 ghost use Prim.Native.Nat.{_+_, _*_, _≤_, _<_};
-ghost use lib.ListN.{length, getD, set, drop, replicate};
-ghost use lib.Dec.{ltb};
-ghost use Rattle.sheet.specs.Bytes.{pick};
+ghost use lib.ListN.{length, getD, set, take, drop, replicate};
 ghost use Rattle.rows.specs.Tables.{byteOf};
-ghost use Rattle.judge.specs.Cells.{cellBytes, tableBytesFor};
-ghost use Rattle.judge.specs.Querying.{bytesRight};
-ghost use Rattle.judge.specs.internal.Index.{nodesAt, marksAt};
+ghost use Rattle.judge.specs.Cells.{cellBytes, countBytes, tableBytesFor};
+ghost use Rattle.judge.specs.StoredCount.{numberAt, inFourBytes};
+ghost use Rattle.judge.specs.internal.Index.{nodesAt, marksAt, HeadRight};
+ghost use Rattle.judge.specs.internal.Judging.{productBound};
 ghost use Rattle.judge.specs.internal.Packed.{Known, OneVisitMore, verdictIn, packedLimit};
 
 fn product(a: usize, b: usize, c: usize) -> usize
     requires { ⌜ (a < 256) × ((b < 256) × (c ≤ 256)) ⌝ }
-    ensures { λ r. ⌜ r ≡ a * b * c ⌝ }
+    ensures { λ r. ⌜ (r ≡ a * b * c) × (r ≤ productBound) ⌝ }
 {
     a * b * c
 }
 
 // A byte for each cell: states × nodes × (binders + 1).
 pub(crate) fn cell_bytes(sheet: &[u8]) -> usize
-    ensures { λ r. ⌜ r ≡ cellBytes (now (sheet .entry)) ⌝ }
+    ensures { λ r. ⌜ (r ≡ cellBytes (now (sheet .entry))) × (r ≤ productBound) ⌝ }
 {
     let rule = rule_body(sheet);
     let states = wide(state_count(plan_body(sheet)));
@@ -42,11 +43,21 @@ pub(crate) fn cell_bytes(sheet: &[u8]) -> usize
     product(states, nodes, binders + 1)
 }
 
-// The bytes of a table that has so many bytes of cells: nothing follows the cells.
+// The same, with the numbers of nodes and marks read from the index.
+pub(crate) fn cell_bytes_prepared(sheet: &[u8], index: &Index) -> usize
+    requires { ⌜ HeadRight (now sheet) (now index) ⌝ }
+    ensures { λ r. ⌜ (r ≡ cellBytes (now (sheet .entry))) × (r ≤ productBound) ⌝ }
+{
+    let states = wide(state_count(plan_body(sheet)));
+    product(states, number(index, NODES_AT), number(index, MARKS_AT))
+}
+
+// The bytes of a table that has so many bytes of cells: the cells, and the count after them.
 pub(crate) fn table_bytes_for(cells: usize) -> usize
+    requires { ⌜ cells ≤ productBound ⌝ }
     ensures { λ r. ⌜ r ≡ tableBytesFor cells ⌝ }
 {
-    cells
+    cells + COUNT_BYTES
 }
 
 pub(crate) fn zero(table: &mut [u8], size: usize)
@@ -60,27 +71,30 @@ pub(crate) fn zero(table: &mut [u8], size: usize)
     }
 }
 
-fn larger(a: u8, b: u8) -> u8
-    ensures { λ r. ⌜ r ≡ pick (ltb a b) b a ⌝ }
+// What a byte of a number counts for, low byte first.
+const SECOND: u32 = 256;
+
+const THIRD: u32 = SECOND * 256;
+
+const FOURTH: u32 = THIRD * 256;
+
+// The number that four bytes hold, low byte first.
+pub(crate) fn number_at(table: &[u8], at: usize) -> u32
+    requires { ⌜ at + countBytes ≤ length (now table) ⌝ }
+    ensures { λ r. ⌜ r ≡ numberAt (now (table .entry)) at ⌝ }
 {
-    if a < b {
-        return b;
-    }
-    a
+    let low = byte_as_u32(table[at]) + SECOND * byte_as_u32(table[at + 1]);
+    low + THIRD * byte_as_u32(table[at + 2]) + FOURTH * byte_as_u32(table[at + 3])
 }
 
-// Whether the first size bytes are 0, 1 or 2: whether the largest of them is at most 2.
-pub(crate) fn bytes_right(table: &[u8], size: usize) -> bool
-    requires { ⌜ size ≤ length (now table) ⌝ }
-    ensures { λ b. ⌜ b ≡ bytesRight size (now (table .entry)) ⌝ }
+pub(crate) fn put_number(table: &mut [u8], at: usize, n: u32)
+    requires { ⌜ at + countBytes ≤ length (now table) ⌝ }
+    ensures { λ _. ⌜ now (table .exit) ≡ take at (now (table .entry)) ++ (inFourBytes n ++ drop (at + countBytes) (now (table .entry))) ⌝ }
 {
-    let mut most: u8 = 0;
-    let mut i = 0;
-    while i < size {
-        most = larger(most, table[i]);
-        i += 1;
-    }
-    most <= 2
+    table[at] = (n % 256) as u8;
+    table[at + 1] = (n / SECOND % 256) as u8;
+    table[at + 2] = (n / THIRD % 256) as u8;
+    table[at + 3] = (n / FOURTH % 256) as u8;
 }
 
 // The byte of the table that holds a cell.

@@ -1,6 +1,6 @@
 -- The query of state 0 on a table whose cells are empty: what it answers is free of the table, and right by Table 1.
 use Prim.Native.Nat.{ℕ, _<_, _≤_}
-use mathlib.Core.Path.{_≡_, refl, sym, ap, subst, _∙_}
+use mathlib.Core.Path.{_≡_, refl, sym, ap, ap₂, subst, _∙_}
 use mathlib.Core.Bool.{Bool, true, false}
 use mathlib.Core.List.{List, [], _∷_}
 use mathlib.Core.Logic.{_⊎_, _↔_, inl, inr}
@@ -27,16 +27,17 @@ use Rattle.rows.proofs.tables.Filling.{fills-empty}
 use Rattle.rows.proofs.lists.FromCleared.{cleared-value, cleared-need}
 use Rattle.graph.specs.LoopTest.{loopFree}
 use Rattle.graph.proofs.looptest.LoopFree.{free-exactly-at, loop-reachable}
-use Rattle.judge.specs.Cells.{Cell, cell, writtenRows, enough, positionOf, cellBytes}
-use Rattle.judge.specs.Querying.{queryCheck, resultOf, answerQueried, queriedOf, tableQueried, reportedQuery}
+use Rattle.judge.specs.Cells.{Cell, cell, writtenRows, enough, positionOf, cellBytes, tableBytes, cellsIn}
+use Rattle.judge.specs.Querying.{queryCheck, countRight, resultOf, answerQueried, queriedOf, tableQueried, reportedQuery}
 use Rattle.judge.specs.QueryCorrect.{QueryCorrect}
 use Rattle.judge.specs.Lists.{reports}
 use Rattle.judge.specs.declared.Queried.{Queried}
 use Rattle.judge.specs.declared.Queried.the-variants.{Judged, Refused}
 use Rattle.judge.proofs.cells.ValidCells.{Valid, root-valid}
 use Rattle.judge.proofs.cells.CellLayout.{solvable}
+use Rattle.judge.proofs.cells.CountLayout.{cells-byte, cells-length}
 use Rattle.judge.proofs.lists.JustCleared.{cleared-exact}
-use Rattle.judge.proofs.lists.SheetLists.{query-passes, query-fails}
+use Rattle.judge.proofs.lists.SheetLists.{Fine, zero-fine, query-passes, count-passes, query-fails}
 use Rattle.judge.proofs.statements.Demand3.{demand3}
 use Rattle.judge.proofs.statements.QueryCorrect.{queries-correct}
 use Rattle.plan_judge.specs.Program.{clearedTable, programOf, RightAnswer, ProgramCorrect, ProgramRefusals}
@@ -61,25 +62,38 @@ module _ (s : List ℕ) (accepted : sheetCheck s ≡ Passed) where
   abbrev answerIf : Bool → Queried
   answerIf free = pick free (Judged (value (writtenRows s) enough (cell 0 0 0)) neededCells) (Refused Loop)
 
-  module _ (u : List ℕ) (long : cellBytes s ≤ length u) (clear : (i : ℕ) → i < cellBytes s → byteAt u i ≡ 0) where
+  -- a table of zeros
+  module _ (u : List ℕ) (long : tableBytes s ≤ length u) (zeros : (i : ℕ) → i < tableBytes s → byteAt u i ≡ 0) where
+    fine : Fine s accepted u
+    fine = zero-fine s accepted u long zeros
+
+    abbrev held : List ℕ
+    held = cellsIn s u
+
+    fits : cellBytes s ≤ length held
+    fits = omega (arith, cells-length s u long)
+
+    clear : (i : ℕ) → i < cellBytes s → byteAt held i ≡ 0
+    clear i h = cells-byte s u i h ∙ zeros i (omega arith)
+
     judges : loopFree (planBody s) 0 ≡ true → queriedOf s 0 u ≡ answerIf true
     unfolding queriedOf query
     judges e =
-        ap (answerQueried (resultOf s 0 u)) (query-passes s accepted u (record { long = long; small = λ i h. omega (arith, clear i h) }) 0 (rw (lt-ltb 0 (stateCount (planBody s)) starts, e)))
-        ∙ (λ i. Judged (cleared-value (solvable bodies) u long clear (cell 0 0 0) root i) (visited i))
+        ap₂ (answerQueried (resultOf s 0 u)) (query-passes s accepted u fine 0 (rw (lt-ltb 0 (stateCount (planBody s)) starts, e))) (count-passes s accepted u fine)
+        ∙ (λ i. Judged (cleared-value (solvable bodies) held fits clear (cell 0 0 0) root i) (visited i))
       where
         root : Valid (planBody s) (actionsBody s) (ruleBody s) (cell 0 0 0)
         root = root-valid (bodies .rule-kept) 0 starts e
 
         visited : visits (resultOf s 0 u) ≡ neededCells
         visited = count-cong (cellBytes s) _ _ (λ i h.
-            fills-empty (positionOf (ruleBody s)) u (needed (solvable bodies) u (cell 0 0 0)) i (eq-eqb (byteAt u i) 0 (clear i h))
-            ∙ ap (λ (l : List Cell). among (positionOf (ruleBody s)) l i) (cleared-need (solvable bodies) u long clear (cell 0 0 0) root))
+            fills-empty (positionOf (ruleBody s)) held (needed (solvable bodies) held (cell 0 0 0)) i (eq-eqb (byteAt held i) 0 (clear i h))
+            ∙ ap (λ (l : List Cell). among (positionOf (ruleBody s)) l i) (cleared-need (solvable bodies) held fits clear (cell 0 0 0) root))
 
     finds-loop : loopFree (planBody s) 0 ≡ false → queriedOf s 0 u ≡ answerIf false
     unfolding queriedOf
     finds-loop e =
-        ap (answerQueried (resultOf s 0 u)) (query-fails s accepted u 0 (rw (lt-ltb 0 (stateCount (planBody s)) starts, e)))
+        ap (λ (c : Check). answerQueried (resultOf s 0 u) c (countRight s u)) (query-fails s accepted u 0 (rw (lt-ltb 0 (stateCount (planBody s)) starts, e)))
         ∙ rw (lt-ltb 0 (stateCount (planBody s)) starts)
 
     pub answers-start : queriedOf s 0 u ≡ answerIf (loopFree (planBody s) 0)
@@ -96,12 +110,12 @@ unfolding programOf
 program-refuses s x e = refuses s (clearedTable s) x e
 
 module _ (s : List ℕ) (accepted : sheetCheck s ≡ Passed) where
-  length-is : length (clearedTable s) ≡ cellBytes s
-  length-is = length-replicate {A = ℕ} (cellBytes s) 0
+  length-is : length (clearedTable s) ≡ tableBytes s
+  length-is = length-replicate {A = ℕ} (tableBytes s) 0
 
   pub program-answers : programOf s ≡ answerIf s accepted (loopFree (planBody s) 0)
   unfolding programOf
-  program-answers = answers-start s accepted (clearedTable s) (omega (arith, length-is)) (λ i h. getD-replicate (cellBytes s) i 0 0 h)
+  program-answers = answers-start s accepted (clearedTable s) (omega (arith, length-is)) (λ i h. getD-replicate (tableBytes s) i 0 0 h)
 
   -- by demand 3, of the list of this one query
   program-verdict : loopFree (planBody s) 0 ≡ true → (value (writtenRows s) enough (cell 0 0 0) ≡ true) ↔ Verdict s 0

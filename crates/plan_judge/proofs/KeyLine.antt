@@ -15,13 +15,13 @@ use Rattle.sheet.specs.declared.Check.the-variants.{Passed}
 use Rattle.sheet.proofs.acceptance.Numbers.{refused-number}
 use Rattle.calculus.specs.KeySheet.{K}
 use Rattle.text.specs.Decimal.{digitsOf}
-use Rattle.judge.specs.Cells.{cellBytes}
+use Rattle.judge.specs.Cells.{tableBytes}
 use Rattle.judge.specs.Querying.{QueryReport, queriedOf, reportedQuery}
 use Rattle.judge.specs.Clearing.{tableCleared}
 use Rattle.judge.specs.Lists.{none, call}
 use Rattle.judge.specs.SheetsToTry.{judged}
 use Rattle.judge.specs.declared.Queried.{Queried}
-use Rattle.judge.specs.declared.Queried.the-variants.{Judged, Refused}
+use Rattle.judge.specs.declared.Queried.the-variants.{Judged, WrongCount, Refused}
 use Rattle.judge.proofs.lists.JustCleared.{cleared-exact}
 use Rattle.judge.proofs.statements.SheetsToTry.{sheets-to-try}
 use Rattle.plan_judge.specs.Line.{lineOf}
@@ -30,6 +30,7 @@ use Rattle.plan_judge.specs.Program.{clearedTable, programOf, KeyLine}
 -- an answer by what it reports
 judged-answer : (q : Queried) (v : Bool) (n : ℕ) → reportedQuery q ≡ judged v n → q ≡ Judged v n
 judged-answer (Judged w m) v n e = λ i. Judged (e i .verdict) (e i .visits)
+judged-answer WrongCount v n e = absurd (omega (arith, ap (λ (r : QueryReport). r .number) e))
 judged-answer (Refused x) v n e = absurd (omega (arith, refused-number x, ap (λ (r : QueryReport). r .number) e))
 
 first : QueryReport → List QueryReport → QueryReport
@@ -40,10 +41,10 @@ accepted : sheetCheck K ≡ Passed
 unfolding sheetCheck headingRight contentsRight entryIs bodiesCheck planCheck planSized lowestFrom transitionFaulty actionsCheck actionsSized entryFaulty entryRight ruleCheck ruleSized extent bindersBefore binderNode endWithin bindingFaulty
 accepted = refl
 
-table-length : length (clearedTable K) ≡ cellBytes K
-table-length = length-replicate {A = ℕ} (cellBytes K) 0
+table-length : length (clearedTable K) ≡ tableBytes K
+table-length = length-replicate {A = ℕ} (tableBytes K) 0
 
-size : cellBytes K ≡ 108
+size : tableBytes K ≡ 112
 unfolding bindersBefore
 size = refl
 
@@ -53,7 +54,7 @@ key-answer =
     judged-answer (queriedOf K 0 (clearedTable K)) true 17
     (ap (λ (t : List ℕ). reportedQuery (queriedOf K 0 t)) (sym (cleared-exact K (clearedTable K) accepted table-length))
     ∙ ap (first (judged true 17))
-    (sheets-to-try .p1 (clearedTable K) (omega (arith, table-length, size)) _ _ _ _ (refl, (refl, refl)) (call (queriedOf K 0 (tableCleared K (clearedTable K))) (refl, (refl, refl)) none) .0))
+    (sheets-to-try .p1 .report (clearedTable K) (omega (arith, table-length, size)) _ _ _ _ (refl, (refl, refl)) (call (queriedOf K 0 (tableCleared K (clearedTable K))) (refl, (refl, refl)) none) .0))
 
 pub key-line : KeyLine
 unfolding lineOf digitsOf

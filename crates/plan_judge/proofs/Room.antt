@@ -13,7 +13,7 @@ use Rattle.sheet.specs.declared.Refusal.{Refusal}
 use Rattle.sheet.specs.declared.Check.{Check}
 use Rattle.sheet.specs.declared.Check.the-variants.{Passed, Failed}
 use Rattle.sheet.proofs.acceptance.Parts.{bodies-kept}
-use Rattle.judge.specs.Cells.{cellBytes}
+use Rattle.judge.specs.Cells.{cellBytes, tableBytes}
 use Rattle.judge.specs.Clearing.{clearCheck, clearedOf, tableCleared}
 use Rattle.judge.specs.Querying.{queriedOf}
 use Rattle.judge.specs.declared.Cleared.the-variants as cleared
@@ -24,22 +24,24 @@ use Rattle.plan_judge.specs.Program.{programOf}
 use Rattle.plan_judge.specs.Buffers.{mostStates, mostNodes, mostBinders, tableLength, answerAfter, clearThenQuery, RoomForEverySheet}
 use Rattle.plan_judge.proofs.Answers.{answers-start, program-refuses, program-answers}
 
--- no sheet has more cells
-few-cells : (s : List ℕ) → sheetCheck s ≡ Passed → cellBytes s ≤ tableLength
-few-cells s accepted =
+-- no sheet has a longer table
+short-table : (s : List ℕ) → sheetCheck s ≡ Passed → tableBytes s ≤ tableLength
+short-table s accepted =
     let k = bodies-kept s accepted in
     let marks : binderCount (ruleBody s) + 1 ≤ mostBinders + 1 = omega (arith, k .rule-kept .few-binders) in
+    let cells : cellBytes s ≤ mostStates * mostNodes * (mostBinders + 1) =
     mul-le-mul {n₂ = mostStates * mostNodes} {m₂ = mostBinders + 1}
-    (mul-le-mul {n₂ = mostStates} {m₂ = mostNodes} (k .plan-kept .few-states) (k .rule-kept .few-nodes)) marks
+    (mul-le-mul {n₂ = mostStates} {m₂ = mostNodes} (k .plan-kept .few-states) (k .rule-kept .few-nodes)) marks in
+    omega arith
 
 refused-alike : (s t : List ℕ) (x : Refusal) → sheetCheck s ≡ Failed x → clearThenQuery s t ≡ queried.Refused x
 unfolding clearedOf clearCheck
 refused-alike s t x e = rw e
 
-module _ (s t : List ℕ) (accepted : sheetCheck s ≡ Passed) (fits : cellBytes s ≤ length t) where
+module _ (s t : List ℕ) (accepted : sheetCheck s ≡ Passed) (fits : tableBytes s ≤ length t) where
   done : clearedOf s t ≡ cleared.Done
   unfolding clearedOf clearCheck
-  done = rw (accepted, le-leb (cellBytes s) (length t) fits)
+  done = rw (accepted, le-leb (tableBytes s) (length t) fits)
 
   queried-alike : clearThenQuery s t ≡ programOf s
   queried-alike =
@@ -51,7 +53,7 @@ pub room-for-every-sheet : RoomForEverySheet
 room-for-every-sheet s t long = go (sheetCheck s) refl
   where
     go : (c : Check) → sheetCheck s ≡ c → clearThenQuery s t ≡ programOf s
-    go Passed e = queried-alike s t e (omega (arith, few-cells s e))
+    go Passed e = queried-alike s t e (omega (arith, short-table s e))
     go (Failed x) e = refused-alike s t x e ∙ sym (program-refuses s x e)
 
 -- the same, of calls that cleared t and left u

@@ -4,6 +4,7 @@ use mathlib.Core.Path.{_≡_}
 use mathlib.Core.List.{List}
 use lib.ListN.{length, take}
 use Rattle.sheet.specs.Contents.{longest}
+use Rattle.judge.specs.Cells.{tableBytesFor}
 use Rattle.judge.specs.Clearing.{clearedOf, tableCleared}
 use Rattle.judge.specs.Querying.{queriedOf}
 use Rattle.judge.specs.declared.Cleared.{Cleared}
@@ -27,9 +28,9 @@ mostNodes = 64
 abbrev pub mostBinders : ℕ
 mostBinders = 6
 
--- "S × N × (B + 1)" of the largest sheets
+-- "S × N × (B + 1)" of the largest sheets, and the count after the cells
 abbrev pub tableLength : ℕ
-tableLength = mostStates * mostNodes * (mostBinders + 1)
+tableLength = tableBytesFor (mostStates * mostNodes * (mostBinders + 1))
 
 -- clearing's refusal is the answer, and no query is made
 abbrev pub answerAfter : Queried → Cleared → Queried

@@ -6,14 +6,19 @@ use lib.ListN.{length}
 use Rattle.text.specs.Decimal.{decimalOf}
 use Rattle.text.specs.Placing.{startingWith}
 use Rattle.text.specs.Words.{space, lineFeed, boolText, refused}
-use Rattle.sheet.specs.Refusals.{numberOf, placeOf}
+use Rattle.judge.specs.Querying.{reportedQuery}
 use Rattle.judge.specs.declared.Queried.{Queried}
-use Rattle.judge.specs.declared.Queried.the-variants.{Judged, Refused}
+use Rattle.judge.specs.declared.Queried.the-variants.{Judged, WrongCount, Refused}
+
+-- "`refused`, a space, the number, a space, the place"
+unfoldable pub refusalLine : ℕ → ℕ → List ℕ
+refusalLine number place = refused ++ space ++ decimalOf number ++ space ++ decimalOf place ++ lineFeed
 
 -- the line of an answer
 unfoldable pub lineOf : Queried → List ℕ
 lineOf (Judged v n) = boolText v ++ space ++ decimalOf n ++ lineFeed
-lineOf (Refused r) = refused ++ space ++ decimalOf (numberOf r) ++ space ++ decimalOf (placeOf r) ++ lineFeed
+lineOf WrongCount = refusalLine (reportedQuery WrongCount .number) (reportedQuery WrongCount .place)
+lineOf (Refused r) = refusalLine (reportedQuery (Refused r) .number) (reportedQuery (Refused r) .place)
 
 -- `refused`, two numbers of at most 20 digits, two spaces and the line feed
 abbrev pub lineLength : ℕ

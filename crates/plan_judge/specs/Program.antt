@@ -52,10 +52,10 @@ pub data RightAnswer (s : List ℕ) : Queried → Type 0 where
 abbrev pub ProgramCorrect : Type 0
 ProgramCorrect = (s : List ℕ) → RightAnswer s (programOf s)
 
--- it gives 0, 1 to 10 or 12: never 11, 20 or 21, since every plan has a state 0 and the table is long enough and just cleared
+-- it gives 0, 1 to 10 or 12: never 11, 20, 21 or 35, since every plan has a state 0 and the table is long enough and just cleared
 abbrev pub ProgramRefusals : Type 0
 ProgramRefusals = (s : List ℕ) → (reportedQuery (programOf s) .number ≤ 10) ⊎ (reportedQuery (programOf s) .number ≡ 12)
 
--- "P1: K, table 108 bytes, state 0: true, 17 visits; the program prints `true 17`", and a line feed
+-- "P1: K, .. state 0: true, 17 visits; the program prints `true 17`", and a line feed
 abbrev pub KeyLine : Type 0
 KeyLine = programLine K ≡ 116 ∷ 114 ∷ 117 ∷ 101 ∷ 32 ∷ 49 ∷ 55 ∷ 10 ∷ []

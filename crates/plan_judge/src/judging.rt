@@ -1,5 +1,6 @@
 // From the bytes that were read to the line.
 use crate::line::put_line;
+use judge::COUNT_BYTES;
 use judge::Cleared;
 use judge::Queried;
 use sheet::LONGEST;
@@ -15,14 +16,14 @@ ghost use Rattle.plan_judge.specs.Buffers.{inputLength, PutsLineOfFile};
 // One byte more than the longest sheet, so that a longer input is seen to be too long and is not read to its end.
 pub(crate) const INPUT_LENGTH: usize = LONGEST + 1;
 
-// The limits of a sheet, and the table of one that reaches them.
+// The limits of a sheet, and the table of one that reaches them: the cells and the count.
 const MOST_STATES: usize = 128;
 
 const MOST_NODES: usize = 64;
 
 const MOST_BINDERS: usize = 6;
 
-const TABLE_LENGTH: usize = MOST_STATES * MOST_NODES * (MOST_BINDERS + 1);
+const TABLE_LENGTH: usize = MOST_STATES * MOST_NODES * (MOST_BINDERS + 1) + COUNT_BYTES;
 
 // Clears a table and queries state 0; a refusal of either is the answer.
 fn judge_start(sheet: &[u8]) -> Queried

@@ -38,9 +38,9 @@ numberOf NoSuchState = 11
 numberOf Loop = 12
 -- "13: S over 64 (reference only)."
 numberOf TooManyStates = 13
--- "20: table buffer too short."
+-- "20: table buffer too short."; document 02 (f): "Number 20 now means four bytes more"
 numberOf TableShort = 20
--- "21: a table byte over 2 (query only)."
+-- "21: a table byte over 2 (query only)."; document 02 (f): "21 reads the cells alone"
 numberOf TableByte = 21
 -- "22: output buffer too short (calls that write a sheet or a body)."
 numberOf OutputShort = 22

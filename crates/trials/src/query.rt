@@ -9,23 +9,24 @@ use sheet::State;
 ghost use Prim.Native.Nat.{_≤_};
 ghost use lib.ListN.{length};
 
+fn write_answer(q: Queried) {
+    let number = q.number();
+    if number == 0 {
+        output::accepted();
+    } else {
+        output::number(number as u64);
+        output::number(q.place() as u64);
+    }
+    output::truth(q.verdict());
+    output::number(q.visits() as u64);
+    output::end_line();
+}
+
 // Asks for the verdict at a state and writes the line of the answer.
 pub(crate) fn query(sheet: &[u8], state: State, table: &mut [u8]) {
     output::text(b"query");
     let answer = judge::querying::query(sheet, state, table);
-    match answer {
-        Queried::Judged { verdict, visits } => {
-            output::accepted();
-            output::truth(verdict);
-            output::number(visits as u64);
-        }
-        Queried::Refused(r) => {
-            output::refused(r);
-            output::truth(false);
-            output::number(0);
-        }
-    }
-    output::end_line();
+    write_answer(answer);
 }
 
 pub(crate) fn write_table(table: &[u8]) {

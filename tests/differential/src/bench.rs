@@ -480,8 +480,9 @@ fn page(rows: &[Row], missing: &[&str], start: &[f64], start_time: &[f64], each:
     }
     o += "\n";
     o += &paragraph(
-        "Each query of a list reads the sheet again and looks at its whole table for a byte over 2 (refusal
-        21): S × N × (B + 1) bytes, 57,344 at the largest size, which both programs do many bytes at a step.
+        "Each query of a list reads the sheet again and looks at every cell of its table for a byte over 2
+        (refusal 21); the same pass counts the filled cells, with which the stored count is compared (35).
+        That is S × N × (B + 1) bytes, 57,344 at the largest size, which both programs take many at a step.
         So a list grows faster than its sheet.",
     );
     let of = |op: usize, n: usize| rows.iter().find(|r| r.op == op && r.size == n);

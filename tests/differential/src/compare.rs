@@ -61,7 +61,8 @@ pub fn vectors(dir: &str) -> i32 {
 }
 
 /// A query is refused by 12 exactly at the states from which a loop can be reached; elsewhere its verdict is Table 1's.
-/// Visits add up to the cells filled; a second query fills none. The children of the nodes are all nodes but the root.
+/// Visits add up to the cells filled and to the stored count; a second query fills none. The children of the nodes are all
+/// nodes but the root.
 pub fn selfcheck(seed: u64, count: u64) -> i32 {
     let (mut sheets, mut done, mut yes) = (0u64, 0u64, 0u64);
     let mut loops = LoopTally::default();
@@ -87,7 +88,11 @@ pub fn selfcheck(seed: u64, count: u64) -> i32 {
             return 1;
         }
         let looping = oracle::loop_reachable_states(&p);
-        let mut table = vec![0; p.table_len()];
+        let mut table = vec![r.byte(); p.table_len()];
+        if oracle::clear(&sheet, &mut table).is_err() {
+            println!("seed {seed}, sheet {i}: clearing was refused");
+            return 1;
+        }
         let (mut sum, mut refused) = (0, 0);
         for s in 0..p.states as u8 {
             let (found, again) = (oracle::query(&sheet, s, &mut table), oracle::query(&sheet, s, &mut table));
@@ -108,8 +113,9 @@ pub fn selfcheck(seed: u64, count: u64) -> i32 {
                 return 1;
             }
         }
-        if sum != table.iter().filter(|&&v| v != 0).count() {
-            println!("seed {seed}, sheet {i}: visits are not the cells filled");
+        let filled = table[..p.cells()].iter().filter(|&&v| v != 0).count();
+        if sum != filled || sum != oracle::stored_count(&table, p.cells()) as usize {
+            println!("seed {seed}, sheet {i}: visits are not the cells filled or not the stored count");
             return 1;
         }
         sheets += 1;
@@ -591,6 +597,32 @@ fn smaller_sheets(s: &[u8]) -> Vec<Vec<u8>> {
     out
 }
 
+fn cells(sheet: &[u8]) -> usize {
+    oracle::read(sheet).map_or(0, |s| s.parts.cells())
+}
+
+/// Gives the other table a count that is off its filled cells by as much as that of the table is; nothing where one of them
+/// has no room for a count.
+fn recount(table: &[u8], was: usize, other: &mut [u8], now: usize) {
+    if table.len() >= was + 4 && other.len() >= now + 4 {
+        let filled = |t: &[u8]| t.iter().filter(|&&v| v == 1 || v == 2).count() as u32;
+        let off = oracle::stored_count(table, was).wrapping_sub(filled(&table[..was]));
+        let count = filled(&other[..now]).wrapping_add(off);
+        other[now..now + 4].copy_from_slice(&count.to_le_bytes());
+    }
+}
+
+/// A table for a sheet with `now` cells in place of `was`: the first of the cells, a count that is off by as much, the bytes
+/// past it.
+fn refitted(table: &[u8], was: usize, now: usize) -> Vec<u8> {
+    let cells = was.min(table.len());
+    let mut out = table[..cells].to_vec();
+    out.resize((cells + now).saturating_sub(was), 0);
+    out.extend(&table[cells..]);
+    recount(table, was, &mut out, now);
+    out
+}
+
 fn candidates(r: &Request) -> Vec<Request> {
     match r {
         Request::Read(s) => smaller_sheets(s).into_iter().map(Request::Read).collect(),
@@ -604,9 +636,7 @@ fn candidates(r: &Request) -> Vec<Request> {
                 .collect();
             for s in smaller_sheets(sheet) {
                 // a table that is too long by as much as before, or the same
-                let was = oracle::read(sheet).map_or(0, |s| s.parts.table_len());
-                let now = oracle::read(&s).map_or(0, |s| s.parts.table_len());
-                let fit = (*table_len as usize + now).saturating_sub(was) as u16;
+                let fit = (*table_len as usize + cells(&s)).saturating_sub(cells(sheet)) as u16;
                 for table_len in [fit, *table_len] {
                     out.push(Request::List { sheet: s.clone(), table_len, fill: *fill, states: states.clone() });
                 }
@@ -618,16 +648,16 @@ fn candidates(r: &Request) -> Vec<Request> {
             if table.iter().any(|&v| v != 0) {
                 out.push(Request::Query { sheet: sheet.clone(), state: *state, table: vec![0; table.len()] });
             }
+            let was = cells(sheet);
             for s in smaller_sheets(sheet) {
-                let was = oracle::read(sheet).map_or(0, |s| s.parts.table_len());
-                let now = oracle::read(&s).map_or(0, |s| s.parts.table_len());
-                let fit = (table.len() + now).saturating_sub(was).min(table.len());
-                out.push(Request::Query { sheet: s.clone(), state: *state, table: table[..fit].to_vec() });
-                out.push(Request::Query { sheet: s, state: *state, table: vec![0; fit] });
+                let t = refitted(table, was, cells(&s));
+                out.push(Request::Query { sheet: s.clone(), state: *state, table: vec![0; t.len()] });
+                out.push(Request::Query { sheet: s, state: *state, table: t });
             }
             for i in (0..table.len()).filter(|&i| table[i] != 0).take(200) {
                 let mut t = table.clone();
                 t[i] = 0;
+                recount(table, was, &mut t, was);
                 out.push(Request::Query { sheet: sheet.clone(), state: *state, table: t });
             }
             for s in 0..*state {

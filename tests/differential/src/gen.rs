@@ -869,8 +869,34 @@ pub fn buffer_len(r: &mut Rng, exact: usize) -> usize {
     n.min(65535)
 }
 
-fn table_len(sheet: &[u8]) -> usize {
-    oracle::read(sheet).map_or(20, |s| s.parts.table_len())
+fn cells(sheet: &[u8]) -> usize {
+    oracle::read(sheet).map_or(20, |s| s.parts.cells())
+}
+
+/// A buffer for a table of so many cells: now and then one that ends within its count or just behind it.
+fn table_buffer_len(r: &mut Rng, cells: usize) -> usize {
+    if r.chance(10) { cells + r.below(6) } else { buffer_len(r, cells + 4) }
+}
+
+/// A count of filled cells, right most of the time; else off by a little, with a byte changed, with its bytes turned round,
+/// or anything.
+fn count(r: &mut Rng, filled: u32) -> [u8; 4] {
+    let mut right = filled.to_le_bytes();
+    if r.chance(75) {
+        return right;
+    }
+    match r.below(6) {
+        0 => filled.wrapping_add(1 + r.below(3) as u32).to_le_bytes(),
+        1 => filled.wrapping_sub(1 + r.below(3) as u32).to_le_bytes(),
+        2 => filled.to_be_bytes(),
+        3 => [right[1], right[0], right[3], right[2]],
+        4 => {
+            let i = r.below(4);
+            right[i] = odd(r, right[i]);
+            right
+        }
+        _ => (r.next() as u32).to_le_bytes(),
+    }
 }
 
 /// The states from which a loop can be reached, and the others; none of a sheet that is refused.
@@ -895,7 +921,7 @@ pub fn request_at(seed: u64, index: u64, numbers: &[u8]) -> Request {
             p.transitions.sort();
         }
         let sheet = p.sheet();
-        let len = table_len(&sheet);
+        let len = cells(&sheet) + 4;
         return match index % 2 {
             0 => Request::List { sheet, table_len: len as u16, fill: 7, states: vec![0, 127, 0] },
             _ => Request::Query { sheet, state: 0, table: vec![0; len] },
@@ -926,7 +952,6 @@ fn request(r: &mut Rng, numbers: &[u8]) -> Request {
         }
         4 => {
             let sheet = sheet(r, 85);
-            let exact = table_len(&sheet);
             let states = oracle::read(&sheet).map_or(4, |s| s.parts.states);
             let q = match r.below(10) {
                 0 => 0,
@@ -958,31 +983,34 @@ fn request(r: &mut Rng, numbers: &[u8]) -> Request {
                 }
             }
             let fill = if r.chance(40) { r.pick(&[0, 1, 2, 3, 255]) } else { r.byte() };
-            Request::List { table_len: buffer_len(r, exact) as u16, sheet, fill, states: list }
+            Request::List { table_len: table_buffer_len(r, cells(&sheet)) as u16, sheet, fill, states: list }
         }
         5 => {
             let sheet = sheet(r, 90);
-            let exact = table_len(&sheet);
+            let cells = cells(&sheet);
             let states = oracle::read(&sheet).map_or(4, |s| s.parts.states);
             let full = r.pick(&[0, 3, 10, 30, 70, 100]);
             let mut table: Vec<u8> =
-                (0..exact).map(|_| if r.chance(full) { 1 + r.below(2) as u8 } else { 0 }).collect();
+                (0..cells).map(|_| if r.chance(full) { 1 + r.below(2) as u8 } else { 0 }).collect();
             if r.chance(25) {
                 // left by an earlier query, and perhaps not quite
-                table.fill(0);
+                table = vec![0; cells + 4];
                 let _ = oracle::query(&sheet, r.below(states) as u8, &mut table);
-                if r.chance(40) && exact > 0 {
+                table.truncate(cells);
+                if r.chance(40) && cells > 0 {
                     for _ in 0..r.range(1, 5) {
-                        let i = r.below(exact);
+                        let i = r.below(cells);
                         table[i] = r.below(3) as u8;
                     }
                 }
             }
-            if r.chance(8) && exact > 0 {
-                let i = if r.chance(30) { exact - 1 } else { r.below(exact) };
+            if r.chance(8) && cells > 0 {
+                let i = if r.chance(30) { cells - 1 } else { r.below(cells) };
                 table[i] = r.pick(&[3, 4, 255]);
             }
-            let len = buffer_len(r, exact);
+            let filled = table.iter().filter(|&&v| v == 1 || v == 2).count() as u32;
+            table.extend(count(r, filled));
+            let len = table_buffer_len(r, cells);
             while table.len() < len {
                 table.push(r.byte());
             }

@@ -1,4 +1,4 @@
-//! Differential tests and a benchmark of the trial driver, against an implementation of documents 01 and 02 (a) to (e) of its own.
+//! Differential tests and a benchmark of the trial driver, against an implementation of documents 01 and 02 (a) to (f) of its own.
 
 mod bench;
 mod compare;

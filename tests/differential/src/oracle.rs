@@ -1,4 +1,5 @@
-//! An independent implementation of document 01, with requests (a) and (b) of document 02, written from the documents.
+//! An independent implementation of document 01, with requests (a), (b), (d) and (f) of document 02, written from the
+//! documents.
 //!
 //! Plain Rust: the sheet is read in one pass, the plan gets a successor index, each action formula becomes one mask,
 //! and the lent table is the memo of the query.
@@ -39,8 +40,12 @@ impl Parts<'_> {
     pub fn node_count(&self) -> usize {
         self.nodes.len() / 3
     }
-    pub fn table_len(&self) -> usize {
+    pub fn cells(&self) -> usize {
         self.states * self.node_count() * (self.binders + 1)
+    }
+    /// The cells and the count of those filled.
+    pub fn table_len(&self) -> usize {
+        self.cells() + 4
     }
 }
 
@@ -387,6 +392,30 @@ pub fn clear(b: &[u8], table: &mut [u8]) -> Result<(), Refusal> {
     Ok(())
 }
 
+/// The count that a table stores after its cells.
+pub fn stored_count(table: &[u8], cells: usize) -> u32 {
+    u32::from_le_bytes([table[cells], table[cells + 1], table[cells + 2], table[cells + 3]])
+}
+
+/// The largest of at most 255 bytes, and how many are not 0: both fit in a byte, so that many bytes are taken at a step.
+fn look_at(block: &[u8]) -> (u8, u8) {
+    block.iter().fold((0, 0), |(most, filled), &v| (v.max(most), filled + u8::from(v != 0)))
+}
+
+/// The largest byte of the cells, and how many are not 0.
+fn look(cells: &[u8]) -> (u8, u32) {
+    // at most 255, and whole steps of 32
+    let (blocks, rest) = cells.as_chunks::<224>();
+    let (mut most, last) = look_at(rest);
+    let mut filled = u32::from(last);
+    for block in blocks {
+        let (high, n) = look_at(block);
+        most = most.max(high);
+        filled += u32::from(n);
+    }
+    (most, filled)
+}
+
 #[derive(Clone, Copy)]
 enum Met {
     Unseen,
@@ -482,16 +511,22 @@ pub fn query(b: &[u8], state: u8, table: &mut [u8]) -> Result<(bool, usize), Ref
     if loop_reachable(p, &first, &mut [Met::Unseen; 128], state as usize) {
         return Err((12, 0));
     }
-    let len = p.table_len();
-    if table.len() < len {
+    let cells = p.cells();
+    if table.len() < p.table_len() {
         return Err((20, 0));
     }
-    if table[..len].iter().fold(0, |most, &v| v.max(most)) > 2 {
+    let (most, filled) = look(&table[..cells]);
+    if most > 2 {
         return Err((21, 0));
+    }
+    if stored_count(table, cells) != filled {
+        return Err((35, 0));
     }
     let mut q = Query { p, first, masks: masks(p), table, visits: 0 };
     let verdict = q.cell(0, 0, state as usize);
-    Ok((verdict, q.visits))
+    let visits = q.visits;
+    table[cells..cells + 4].copy_from_slice(&(filled + visits as u32).to_le_bytes());
+    Ok((verdict, visits))
 }
 
 pub fn write(plan: &[u8], acts: &[u8], rule: &[u8], out: &mut [u8]) -> Result<usize, Refusal> {

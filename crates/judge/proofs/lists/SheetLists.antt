@@ -8,7 +8,7 @@ use mathlib.Core.Logic.{_⊎_, inl, inr}
 use native.Mathlib.Omega.{arith}
 use lib.Dec.{eqb, ltb}
 use lib.ListN.{length}
-use borrow.Author.Tests.{le-ltb, le-leb, ltb-true}
+use borrow.Author.Tests.{le-ltb, le-leb, ltb-true, eq-eqb}
 use Rattle.sheet.specs.Bytes.{pick}
 use Rattle.sheet.specs.Contents.{planBody, actionsBody, ruleBody}
 use Rattle.sheet.specs.Plan.{stateCount}
@@ -20,15 +20,20 @@ use Rattle.sheet.specs.declared.Check.{Check}
 use Rattle.sheet.specs.declared.Check.the-variants.{Passed, Failed}
 use Rattle.sheet.proofs.checks.Checks.{and-parts, none-found}
 use Rattle.sheet.proofs.acceptance.Parts.{bodies-kept}
-use Rattle.rows.specs.Tables.{byteAt, Result, verdict, visits, table}
-use Rattle.judge.specs.Cells.{Cell, cell, rows, enough, positionOf, cellAt, cellBytes}
+use Rattle.rows.specs.Tables.{byteAt, filled, count, Result, verdict, visits, table}
+use Rattle.judge.specs.Cells.{Cell, cell, rows, enough, positionOf, cellAt, cellBytes, tableBytes, cellsIn}
+use Rattle.judge.specs.StoredCount.{storedCount, filledCells, tableWith, HoldsCount}
 use Rattle.graph.specs.LoopTest.{loopFree}
-use Rattle.judge.specs.Querying.{bytesRight, queryCheck, resultOf, answerQueried, queriedOf, leftBy, tableQueried, QueryReport, reportedQuery}
+use Rattle.judge.specs.Querying.{bytesRight, queryCheck, countRight, resultOf, answerQueried, queriedOf, leftBy, tableQueried, QueryReport, reportedQuery}
 use Rattle.judge.specs.declared.Queried.the-variants.{Refused}
 use Rattle.judge.specs.Lists.{reports, tableAfter, Reported, SameAnswers, visitsOf, judgedStates}
 use Rattle.rows.proofs.systems.Systems.{Each, queries, total, final, Solvable}
+use Rattle.rows.proofs.tables.Counting.{count-cong, count-none, count-le}
 use Rattle.rows.proofs.solver.Solved.{Right, query-right}
+use Rattle.rows.proofs.lists.Lists.{query-filled}
 use Rattle.judge.proofs.cells.ValidCells.{Valid, root-valid}
+use Rattle.judge.proofs.cells.CountLayout.{cells-byte, cells-length, zero-count, filled-cells, count-layout}
+use Rattle.judge.proofs.steps.DecideSteps.{size-small}
 
 -- whether a plan has a state, and no loop can be reached from it
 abbrev pub takes : List ℕ → ℕ → Bool
@@ -79,10 +84,21 @@ module _ (s : List ℕ) (accepted : sheetCheck s ≡ Passed) where
       let b = and-parts (ltb state statesOf) (loopFree (planBody s) state) h in
       root-valid (bodies-kept s accepted .rule-kept) state (ltb-true state statesOf (b .0)) (b .1)
 
-  -- a table that a query takes: long enough, and no byte over 2
+  -- a table that a query takes: long enough, no byte of the cells over 2, and the count right
   pub record Fine (u : List ℕ) : Type 0 where
-    pub long : cellBytes s ≤ length u
+    pub long : tableBytes s ≤ length u
     pub small : (i : ℕ) → i < cellBytes s → byteAt u i ≤ 2
+    pub counted : storedCount s u ≡ filledCells s u
+
+  -- a table of zeros
+  pub zero-fine : (u : List ℕ) → tableBytes s ≤ length u → ((i : ℕ) → i < tableBytes s → byteAt u i ≡ 0) → Fine u
+  zero-fine u long zero = record {
+    long = long;
+    small = λ i h. omega (arith, zero i (omega arith));
+    counted =
+        zero-count s u zero
+        ∙ sym (count-none (cellBytes s) (λ i. filled (byteAt u i)) (λ i h. ap filled (zero i (omega arith))));
+  }
 
   pub query-passes : (u : List ℕ) → Fine u → (state : ℕ) → Takes state → queryCheck s state u ≡ Passed
   unfolding queryCheck bytesRight
@@ -92,9 +108,13 @@ module _ (s : List ℕ) (accepted : sheetCheck s ≡ Passed) where
         accepted,
         b .0,
         b .1,
-        le-leb (cellBytes s) (length u) (fine .long),
+        le-leb (tableBytes s) (length u) (fine .long),
         none-found (λ i. ltb 2 (byteAt u i)) (cellBytes s) .1 (λ i l. le-ltb 2 (byteAt u i) (fine .small i l)),
       )
+
+  pub count-passes : (u : List ℕ) → Fine u → countRight s u ≡ true
+  unfolding countRight
+  count-passes u fine = eq-eqb (storedCount s u) (filledCells s u) (fine .counted)
 
   -- the refusal of a state that is not taken
   abbrev refusal : ℕ → Refusal
@@ -112,18 +132,19 @@ module _ (s : List ℕ) (accepted : sheetCheck s ≡ Passed) where
   pub judged-report : (u : List ℕ) → Fine u → (state : ℕ) → Takes state
       → reportedQuery (queriedOf s state u) ≡ record { number = 0; place = 0; verdict = verdict (resultOf s state u); visits = visits (resultOf s state u) }
   unfolding queriedOf
-  judged-report u fine state h = ap (λ (c : Check). reportedQuery (answerQueried (resultOf s state u) c)) (query-passes u fine state h)
+  judged-report u fine state h = ap₂ (λ (c : Check) (b : Bool). reportedQuery (answerQueried (resultOf s state u) c b)) (query-passes u fine state h) (count-passes u fine)
 
-  pub judged-table : (u : List ℕ) → Fine u → (state : ℕ) → Takes state → tableQueried s state u ≡ table (resultOf s state u)
+  judged-table : (u : List ℕ) → Fine u → (state : ℕ) → Takes state
+      → tableQueried s state u ≡ tableWith s (table (resultOf s state u)) (storedCount s u + visits (resultOf s state u)) u
   unfolding tableQueried
-  judged-table u fine state h = ap (leftBy (resultOf s state u) u) (query-passes u fine state h)
+  judged-table u fine state h = ap₂ (leftBy s (resultOf s state u) u) (query-passes u fine state h) (count-passes u fine)
 
   abbrev refusedReport : ℕ → QueryReport
   refusedReport state = record { number = refusalNumber (planBody s) state; place = 0; verdict = false; visits = 0 }
 
   pub refused : (u : List ℕ) (state : ℕ) → takes (planBody s) state ≡ false → reportedQuery (queriedOf s state u) ≡ refusedReport state
   unfolding queriedOf
-  refused u state h = ap (λ (c : Check). reportedQuery (answerQueried (resultOf s state u) c)) (query-fails u state h) ∙ go (ltb state statesOf)
+  refused u state h = ap (λ (c : Check). reportedQuery (answerQueried (resultOf s state u) c (countRight s u))) (query-fails u state h) ∙ go (ltb state statesOf)
     where
       go : (b : Bool) → reportedQuery (Refused (pick b Loop NoSuchState)) ≡ record { number = pick b 12 11; place = 0; verdict = false; visits = 0 }
       go true = refl
@@ -131,11 +152,14 @@ module _ (s : List ℕ) (accepted : sheetCheck s ≡ Passed) where
 
   pub refused-table : (u : List ℕ) (state : ℕ) → takes (planBody s) state ≡ false → tableQueried s state u ≡ u
   unfolding tableQueried
-  refused-table u state h = ap (leftBy (resultOf s state u) u) (query-fails u state h)
+  refused-table u state h = ap (λ (c : Check). leftBy s (resultOf s state u) u c (countRight s u)) (query-fails u state h)
 
-  -- the queries at a list of cells
+  -- the queries at a list of cells, on the cells of a table
+  abbrev askOn : List ℕ → List Cell → List Result
+  askOn held cs = queries (positionOf (ruleBody s)) (cellBytes s) (cellAt (ruleBody s)) (rows (planBody s) (actionsBody s) (ruleBody s)) enough held cs
+
   abbrev pub ask : List ℕ → List Cell → List Result
-  ask u cs = queries (positionOf (ruleBody s)) (cellBytes s) (cellAt (ruleBody s)) (rows (planBody s) (actionsBody s) (ruleBody s)) enough u cs
+  ask u cs = askOn (cellsIn s u) cs
 
   -- (0, 0, state) for each state of a list
   abbrev pub starts : List ℕ → List Cell
@@ -143,7 +167,10 @@ module _ (s : List ℕ) (accepted : sheetCheck s ≡ Passed) where
 
   -- the queries of a list of states, of which those of l are taken
   pub record Run (states u l : List ℕ) : Type 0 where
-    pub ends : tableAfter s u states ≡ final u (ask u (starts l))
+    pub ends : cellsIn s (tableAfter s u states) ≡ final (cellsIn s u) (ask u (starts l))
+    pub counted : storedCount s (tableAfter s u states) ≡ storedCount s u + total (ask u (starts l))
+    pub past : (i : ℕ) → tableBytes s ≤ i → byteAt (tableAfter s u states) i ≡ byteAt u i
+    pub kept : length (tableAfter s u states) ≡ length u
     pub sum : visitsOf (reports s u states) ≡ total (ask u (starts l))
     pub judged : judgedStates states (reports s u states) ≡ l
     pub answers : (v : Cell → Bool) → map verdict (ask u (starts l)) ≡ map v (starts l) → Reported (Answer (planBody s) v) states (reports s u states)
@@ -155,33 +182,65 @@ module _ (s : List ℕ) (accepted : sheetCheck s ≡ Passed) where
 
   module _ {Valid : Cell → Type 0} {rank : Cell → ℕ} (solvable : Solvable (positionOf (ruleBody s)) (rows (planBody s) (actionsBody s) (ruleBody s)) (cellBytes s) (cellAt (ruleBody s)) Valid rank enough)
       (start : (state : ℕ) → Takes state → Valid (cell 0 0 state)) where
-    fine-after : (u : List ℕ) → Fine u → (state : ℕ) → Takes state → Fine (table (resultOf s state u))
-    fine-after u fine state h =
-        let r : Right solvable u (table (resultOf s state u)) = query-right solvable u (cell 0 0 state) (fine .long) (start state h) in
-        record { long = rw (r .long) (fine .long); small = λ i l. r .small i (fine .small i l) }
+    -- what a query that is not refused leaves
+    module _ (u : List ℕ) (fine : Fine u) (state : ℕ) (h : Takes state) where
+      abbrev result : Result
+      result = resultOf s state u
 
-    judged-run : (state : ℕ) (states u l : List ℕ) → Fine u → Takes state → Run states (table (resultOf s state u)) l → Run (state ∷ states) u (state ∷ l)
-    unfolding reports tableAfter visitsOf queries total final judgedStates
-    judged-run state states u l fine h r = record {
-      ends = ap (λ (t : List ℕ). tableAfter s t states) (judged-table u fine state h) ∙ r .ends;
-      sum =
-          ap₂ _+_ (ap (λ (q : QueryReport). q .visits) (judged-report u fine state h))
-          (ap (λ (t : List ℕ). visitsOf (reports s t states)) (judged-table u fine state h) ∙ r .sum);
-      judged =
-          ap (λ (q : QueryReport). judgedStates (state ∷ states) (q ∷ reports s (tableQueried s state u) states)) (judged-report u fine state h)
-          ∙ ap (λ (k : List ℕ). state ∷ k) (ap (λ (t : List ℕ). judgedStates states (reports s t states)) (judged-table u fine state h) ∙ r .judged);
-      answers = λ v e.
-          let here : verdict (resultOf s state u) ≡ v (cell 0 0 state) = cc in
-          let rest : map verdict (ask (table (resultOf s state u)) (starts l)) ≡ map v (starts l) = cc in (
-            subst (Answer (planBody s) v state) (sym (judged-report u fine state h)) (inl (h, refl, here)),
-            subst (λ (t : List ℕ). Reported (Answer (planBody s) v) states (reports s t states)) (sym (judged-table u fine state h)) (r .answers v rest),
-          );
-    }
+      long : cellBytes s ≤ length (cellsIn s u)
+      long = omega (arith, cells-length s u (fine .long))
+
+      right : Right solvable (cellsIn s u) (table result)
+      right = query-right solvable (cellsIn s u) (cell 0 0 state) long (start state h)
+
+      -- as many more cells are filled as there were visits
+      grown : storedCount s u + visits result ≡ count (cellBytes s) (λ i. filled (byteAt (table result) i))
+      grown = ap (λ (n : ℕ). n + visits result) (fine .counted ∙ filled-cells s u) ∙ query-filled solvable (cellsIn s u) long (cell 0 0 state)
+
+      pub holds : HoldsCount s (table result) (storedCount s u + visits result) u (tableQueried s state u)
+      holds = subst (HoldsCount s (table result) (storedCount s u + visits result) u) (sym (judged-table u fine state h))
+          (count-layout s (table result) (storedCount s u + visits result) u (right .long ∙ cells-length s u (fine .long)) (fine .long)
+          (omega (arith, grown, count-le (cellBytes s) (λ i. filled (byteAt (table result) i)), size-small s accepted)))
+
+      -- the byte of a cell in the table that is left
+      pub same-byte : (i : ℕ) → i < cellBytes s → byteAt (tableQueried s state u) i ≡ byteAt (table result) i
+      same-byte i l = sym (cells-byte s (tableQueried s state u) i l) ∙ ap (λ (k : List ℕ). byteAt k i) (holds .cells-are)
+
+      pub fine-after : Fine (tableQueried s state u)
+      fine-after = record {
+        long = rw (holds .length-kept) (fine .long);
+        small = λ i l. rw (same-byte i l) (right .small i (rw (cells-byte s u i l) (fine .small i l)));
+        counted = holds .count-is ∙ grown ∙ count-cong (cellBytes s) _ _ (λ i l. ap filled (sym (same-byte i l)));
+      }
+
+      judged-run : (states l : List ℕ) → Run states (tableQueried s state u) l → Run (state ∷ states) u (state ∷ l)
+      unfolding reports tableAfter visitsOf queries total final judgedStates
+      judged-run states l r = record {
+        ends = r .ends ∙ ap (λ (held : List ℕ). final held (askOn held (starts l))) (holds .cells-are);
+        counted = r .counted ∙ omega (arith, holds .count-is, ap (λ (held : List ℕ). total (askOn held (starts l))) (holds .cells-are));
+        past = λ i m. r .past i m ∙ holds .past i m;
+        kept = r .kept ∙ holds .length-kept;
+        sum =
+            ap₂ _+_ (ap (λ (q : QueryReport). q .visits) (judged-report u fine state h))
+            (r .sum ∙ ap (λ (held : List ℕ). total (askOn held (starts l))) (holds .cells-are));
+        judged =
+            ap (λ (q : QueryReport). judgedStates (state ∷ states) (q ∷ reports s (tableQueried s state u) states)) (judged-report u fine state h)
+            ∙ ap (λ (k : List ℕ). state ∷ k) (r .judged);
+        answers = λ v e.
+            let here : verdict result ≡ v (cell 0 0 state) = cc in
+            let rest : map verdict (askOn (table result) (starts l)) ≡ map v (starts l) = cc in (
+              subst (Answer (planBody s) v state) (sym (judged-report u fine state h)) (inl (h, refl, here)),
+              r .answers v (ap (λ (held : List ℕ). map verdict (askOn held (starts l))) (holds .cells-are) ∙ rest),
+            );
+      }
 
     refused-run : (state : ℕ) (states u l : List ℕ) → takes (planBody s) state ≡ false → Run states u l → Run (state ∷ states) u l
     unfolding reports tableAfter visitsOf judgedStates
     refused-run state states u l h r = record {
-      ends = ap (λ (t : List ℕ). tableAfter s t states) (refused-table u state h) ∙ r .ends;
+      ends = ap (λ (t : List ℕ). cellsIn s (tableAfter s t states)) (refused-table u state h) ∙ r .ends;
+      counted = ap (λ (t : List ℕ). storedCount s (tableAfter s t states)) (refused-table u state h) ∙ r .counted;
+      past = λ i m. ap (λ (t : List ℕ). byteAt (tableAfter s t states) i) (refused-table u state h) ∙ r .past i m;
+      kept = ap (λ (t : List ℕ). length (tableAfter s t states)) (refused-table u state h) ∙ r .kept;
       sum =
           ap₂ _+_ (ap (λ (q : QueryReport). q .visits) (refused u state h)) (ap (λ (t : List ℕ). visitsOf (reports s t states)) (refused-table u state h))
           ∙ (omega (arith, r .sum));
@@ -201,12 +260,12 @@ module _ (s : List ℕ) (accepted : sheetCheck s ≡ Passed) where
 
     pub run : (states u : List ℕ) → Fine u → Run states u (takenStates states)
     unfolding reports tableAfter visitsOf queries total final judgedStates takenStates
-    run [] u fine = record { ends = refl; sum = refl; judged = refl; answers = λ v e. tt }
+    run [] u fine = record { ends = refl; counted = omega arith; past = λ i h. refl; kept = refl; sum = refl; judged = refl; answers = λ v e. tt }
     run (state ∷ states) u fine = go (takes (planBody s) state) refl (run states)
       where
         go : (b : Bool) → takes (planBody s) state ≡ b → ((u : List ℕ) → Fine u → Run states u (takenStates states))
             → Run (state ∷ states) u (pick b (state ∷ takenStates states) (takenStates states))
-        go true e rest = judged-run state states u (takenStates states) fine e (rest (table (resultOf s state u)) (fine-after u fine state e))
+        go true e rest = judged-run u fine state e states (takenStates states) (rest (tableQueried s state u) (fine-after u fine state e))
         go false e rest = refused-run state states u (takenStates states) e (rest u fine)
 
   -- each state that is taken is one

@@ -3,12 +3,12 @@ use Prim.Native.Nat.{ℕ, _<_, _≤_}
 use mathlib.Core.Path.{_≡_, refl, sym, ap, subst, _∙_}
 use mathlib.Core.Bool.{Bool, true, false}
 use mathlib.Core.List.{List}
-use mathlib.Core.Logic.{_⊎_, _↔_, _≢_, inl, inr}
+use mathlib.Core.Logic.{_⊎_, _≢_, inl, inr}
 use native.Mathlib.Decide.{decLt}
 use native.Mathlib.Omega.{arith}
-use lib.Dec.{eqb, ltb, leb}
+use lib.Dec.{ltb, leb}
 use lib.ListN.{length}
-use borrow.Author.Tests.{lt-ltb, le-ltb, ltb-true, ltb-false, le-leb, lt-leb, leb-true, leb-false, eqb-false}
+use borrow.Author.Tests.{ltb-true, ltb-false, le-leb, lt-leb, leb-true, leb-false, eqb-true, eqb-false}
 use Rattle.sheet.specs.Bytes.{lowest}
 use Rattle.sheet.specs.Contents.{planBody}
 use Rattle.sheet.specs.Plan.{stateCount}
@@ -29,13 +29,16 @@ use Rattle.graph.specs.Loops.{LoopReachable}
 use Rattle.graph.specs.LoopTest.{loopFree}
 use Rattle.graph.specs.Successors.{successors}
 use Rattle.graph.proofs.looptest.LoopFree.{free-exactly-at, loop-reachable}
-use Rattle.rows.specs.Tables.{byteAt, Result}
+use Rattle.rows.specs.Tables.{byteAt}
 use Rattle.judge.specs.Cells.{cellBytes, tableBytes}
+use Rattle.judge.specs.StoredCount.{storedCount, filledCells}
 use Rattle.judge.specs.Clearing.{clearCheck, answerCleared, clearedOf, emptied, tableCleared, ClearReport, reportedClear, Clears}
-use Rattle.judge.specs.Querying.{bytesRight, queryCheck, resultOf, answerQueried, queriedOf, QueryReport, reportedQuery, Queries}
-use Rattle.judge.specs.CallNumbers.{ClearNumbers, StateThere, NoLoopAhead, TableThere, QueryNumbers, CallNumbers}
+use Rattle.judge.specs.Querying.{bytesRight, queryCheck, countRight, resultOf, answerQueried, queriedOf, QueryReport, reportedQuery}
+use Rattle.judge.specs.Counting.{answerCounted, countedOf, CountReport, reportedCount, ReadsCount}
+use Rattle.judge.specs.CallNumbers.{ClearNumbers, StateThere, NoLoopAhead, TableThere, CellsRight, QueryNumbers, CountNumbers, CallNumbers}
 use Rattle.judge.specs.declared.Cleared.{Cleared}
 use Rattle.judge.specs.declared.Queried.{Queried}
+use Rattle.judge.specs.declared.Counted.{Counted}
 use Rattle.judge.proofs.lists.JustCleared.{cleared-length, cleared-below, cleared-above}
 
 -- the refusal of a check that failed
@@ -50,7 +53,8 @@ pub data QueryCase (s : List ℕ) (state : ℕ) (t : List ℕ) : ℕ → ℕ →
   looping : StateThere s state → LoopReachable (successors (planBody s)) state → QueryCase s state t 12 0
   short : NoLoopAhead s state → length t < tableBytes s → QueryCase s state t 20 0
   bad-byte : TableThere s state t → (i : ℕ) → i < cellBytes s → 2 < byteAt t i → QueryCase s state t 21 0
-  fine : TableThere s state t → ((i : ℕ) → i < cellBytes s → byteAt t i ≤ 2) → QueryCase s state t 0 0
+  miscounted : CellsRight s state t → storedCount s t ≢ filledCells s t → QueryCase s state t 35 0
+  fine : CellsRight s state t → storedCount s t ≡ filledCells s t → QueryCase s state t 0 0
 
 module _ (s : List ℕ) where
   kept : sheetCheck s ≡ Passed → WellFormedSheet s
@@ -69,7 +73,7 @@ module _ (s : List ℕ) where
 
     -- what is reported of a check
     abbrev reportOf : Check → QueryReport
-    reportOf c = reportedQuery (answerQueried (resultOf s state t) c)
+    reportOf c = reportedQuery (answerQueried (resultOf s state t) c (countRight s t))
 
     abbrev Case : Check → Type 0
     Case c = QueryCase s state t (reportOf c .number) (reportOf c .place)
@@ -77,9 +81,15 @@ module _ (s : List ℕ) where
     abbrev over : ℕ → Bool
     over i = ltb 2 (byteAt t i)
 
+    by-count : CellsRight s state t → (b : Bool) → countRight s t ≡ b
+        → QueryCase s state t (reportedQuery (answerQueried (resultOf s state t) Passed b) .number) (reportedQuery (answerQueried (resultOf s state t) Passed b) .place)
+    unfolding countRight
+    by-count q true h = fine q (eqb-true (storedCount s t) (filledCells s t) h)
+    by-count q false h = miscounted q (eqb-false (storedCount s t) (filledCells s t) h)
+
     by-bytes : TableThere s state t → (b : Bool) → bytesRight (cellBytes s) t ≡ b → Case (require b TableByte)
     unfolding bytesRight
-    by-bytes q true h = fine q (λ i l. ltb-false 2 (byteAt t i) (none-found over (cellBytes s) .0 h i l))
+    by-bytes q true h = by-count (record { there = q; small = λ i l. ltb-false 2 (byteAt t i) (none-found over (cellBytes s) .0 h i l) }) (countRight s t) refl
     by-bytes q false h =
         let apart : lowest over (cellBytes s) ≢ cellBytes s = eqb-false (lowest over (cellBytes s)) (cellBytes s) h in
         let l : lowest over (cellBytes s) < cellBytes s = omega (arith, lowest-bound over (cellBytes s)) in
@@ -115,6 +125,7 @@ module _ (s : List ℕ) where
     eleven-to (looping q w) h = absurd (omega arith)
     eleven-to (short q l) h = absurd (omega arith)
     eleven-to (bad-byte q i l b) h = absurd (omega arith)
+    eleven-to (miscounted q f) h = absurd (omega arith)
     eleven-to (fine q f) h = absurd (omega arith)
 
     eleven-from : {n p : ℕ} → QueryCase s state t n p → WellFormedSheet s × (stateCount plan ≤ state) → n ≡ 11
@@ -123,7 +134,8 @@ module _ (s : List ℕ) where
     eleven-from (looping q w) h = absurd (omega (arith, q .below, h .1))
     eleven-from (short q l) h = absurd (omega (arith, q .there .below, h .1))
     eleven-from (bad-byte q i l b) h = absurd (omega (arith, q .free .there .below, h .1))
-    eleven-from (fine q f) h = absurd (omega (arith, q .free .there .below, h .1))
+    eleven-from (miscounted q f) h = absurd (omega (arith, q .there .free .there .below, h .1))
+    eleven-from (fine q f) h = absurd (omega (arith, q .there .free .there .below, h .1))
 
     twelve-to : {n p : ℕ} → QueryCase s state t n p → n ≡ 12 → StateThere s state × LoopReachable (successors plan) state
     twelve-to (unread x e) h = absurd (omega (arith, low-refusal s e))
@@ -131,6 +143,7 @@ module _ (s : List ℕ) where
     twelve-to (looping q w) h = (q, w)
     twelve-to (short q l) h = absurd (omega arith)
     twelve-to (bad-byte q i l b) h = absurd (omega arith)
+    twelve-to (miscounted q f) h = absurd (omega arith)
     twelve-to (fine q f) h = absurd (omega arith)
 
     twelve-from : {n p : ℕ} → QueryCase s state t n p → StateThere s state × LoopReachable (successors plan) state → n ≡ 12
@@ -139,7 +152,8 @@ module _ (s : List ℕ) where
     twelve-from (looping q w) h = refl
     twelve-from (short q l) h = absurd (q .none (h .1))
     twelve-from (bad-byte q i l b) h = absurd (q .free .none (h .1))
-    twelve-from (fine q f) h = absurd (q .free .none (h .1))
+    twelve-from (miscounted q f) h = absurd (q .there .free .none (h .1))
+    twelve-from (fine q f) h = absurd (q .there .free .none (h .1))
 
     twenty-to : {n p : ℕ} → QueryCase s state t n p → n ≡ 20 → NoLoopAhead s state × (length t < tableBytes s)
     twenty-to (unread x e) h = absurd (omega (arith, low-refusal s e))
@@ -147,6 +161,7 @@ module _ (s : List ℕ) where
     twenty-to (looping q w) h = absurd (omega arith)
     twenty-to (short q l) h = (q, l)
     twenty-to (bad-byte q i l b) h = absurd (omega arith)
+    twenty-to (miscounted q f) h = absurd (omega arith)
     twenty-to (fine q f) h = absurd (omega arith)
 
     twenty-from : {n p : ℕ} → QueryCase s state t n p → NoLoopAhead s state × (length t < tableBytes s) → n ≡ 20
@@ -155,7 +170,8 @@ module _ (s : List ℕ) where
     twenty-from (looping q w) h = absurd (h .0 .none w)
     twenty-from (short q l) h = refl
     twenty-from (bad-byte q i l b) h = absurd (omega (arith, q .long, h .1))
-    twenty-from (fine q f) h = absurd (omega (arith, q .long, h .1))
+    twenty-from (miscounted q f) h = absurd (omega (arith, q .there .long, h .1))
+    twenty-from (fine q f) h = absurd (omega (arith, q .there .long, h .1))
 
     twenty-one-to : {n p : ℕ} → QueryCase s state t n p → n ≡ 21 → TableThere s state t × ((i : ℕ) × (i < cellBytes s) × (2 < byteAt t i))
     twenty-one-to (unread x e) h = absurd (omega (arith, low-refusal s e))
@@ -163,6 +179,7 @@ module _ (s : List ℕ) where
     twenty-one-to (looping q w) h = absurd (omega arith)
     twenty-one-to (short q l) h = absurd (omega arith)
     twenty-one-to (bad-byte q i l b) h = (q, (i, l, b))
+    twenty-one-to (miscounted q f) h = absurd (omega arith)
     twenty-one-to (fine q f) h = absurd (omega arith)
 
     twenty-one-from : {n p : ℕ} → QueryCase s state t n p → TableThere s state t × ((i : ℕ) × (i < cellBytes s) × (2 < byteAt t i)) → n ≡ 21
@@ -171,22 +188,43 @@ module _ (s : List ℕ) where
     twenty-one-from (looping q w) h = absurd (h .0 .free .none w)
     twenty-one-from (short q l) h = absurd (omega (arith, h .0 .long))
     twenty-one-from (bad-byte q i l b) h = refl
-    twenty-one-from (fine q f) h = absurd (omega (arith, f (h .1 .0) (h .1 .1), h .1 .2))
+    twenty-one-from (miscounted q f) h = absurd (omega (arith, q .small (h .1 .0) (h .1 .1), h .1 .2))
+    twenty-one-from (fine q f) h = absurd (omega (arith, q .small (h .1 .0) (h .1 .1), h .1 .2))
 
-    none-to : {n p : ℕ} → QueryCase s state t n p → n ≡ 0 → TableThere s state t × ((i : ℕ) → i < cellBytes s → byteAt t i ≤ 2)
+    thirty-five-to : {n p : ℕ} → QueryCase s state t n p → n ≡ 35 → CellsRight s state t × (storedCount s t ≢ filledCells s t)
+    thirty-five-to (unread x e) h = absurd (omega (arith, low-refusal s e))
+    thirty-five-to (no-state k l) h = absurd (omega arith)
+    thirty-five-to (looping q w) h = absurd (omega arith)
+    thirty-five-to (short q l) h = absurd (omega arith)
+    thirty-five-to (bad-byte q i l b) h = absurd (omega arith)
+    thirty-five-to (miscounted q f) h = (q, f)
+    thirty-five-to (fine q f) h = absurd (omega arith)
+
+    thirty-five-from : {n p : ℕ} → QueryCase s state t n p → CellsRight s state t × (storedCount s t ≢ filledCells s t) → n ≡ 35
+    thirty-five-from (unread x e) h = absurd (clash e (h .0 .there .free .there .accepted))
+    thirty-five-from (no-state k l) h = absurd (omega (arith, h .0 .there .free .there .below))
+    thirty-five-from (looping q w) h = absurd (h .0 .there .free .none w)
+    thirty-five-from (short q l) h = absurd (omega (arith, h .0 .there .long))
+    thirty-five-from (bad-byte q i l b) h = absurd (omega (arith, h .0 .small i l))
+    thirty-five-from (miscounted q f) h = refl
+    thirty-five-from (fine q f) h = absurd (h .1 f)
+
+    none-to : {n p : ℕ} → QueryCase s state t n p → n ≡ 0 → CellsRight s state t × (storedCount s t ≡ filledCells s t)
     none-to (unread x e) h = absurd (omega (arith, refused-number x))
     none-to (no-state k l) h = absurd (omega arith)
     none-to (looping q w) h = absurd (omega arith)
     none-to (short q l) h = absurd (omega arith)
     none-to (bad-byte q i l b) h = absurd (omega arith)
+    none-to (miscounted q f) h = absurd (omega arith)
     none-to (fine q f) h = (q, f)
 
-    none-from : {n p : ℕ} → QueryCase s state t n p → TableThere s state t × ((i : ℕ) → i < cellBytes s → byteAt t i ≤ 2) → n ≡ 0
-    none-from (unread x e) h = absurd (clash e (h .0 .free .there .accepted))
-    none-from (no-state k l) h = absurd (omega (arith, h .0 .free .there .below))
-    none-from (looping q w) h = absurd (h .0 .free .none w)
-    none-from (short q l) h = absurd (omega (arith, h .0 .long))
-    none-from (bad-byte q i l b) h = absurd (omega (arith, h .1 i l))
+    none-from : {n p : ℕ} → QueryCase s state t n p → CellsRight s state t × (storedCount s t ≡ filledCells s t) → n ≡ 0
+    none-from (unread x e) h = absurd (clash e (h .0 .there .free .there .accepted))
+    none-from (no-state k l) h = absurd (omega (arith, h .0 .there .free .there .below))
+    none-from (looping q w) h = absurd (h .0 .there .free .none w)
+    none-from (short q l) h = absurd (omega (arith, h .0 .there .long))
+    none-from (bad-byte q i l b) h = absurd (omega (arith, h .0 .small i l))
+    none-from (miscounted q f) h = absurd (f (h .1))
     none-from (fine q f) h = refl
 
     unreadable-case : {n p : ℕ} → QueryCase s state t n p → (y : Refusal) → sheetCheck s ≡ Failed y → (n ≡ numberOf y) × (p ≡ placeOf y)
@@ -195,7 +233,8 @@ module _ (s : List ℕ) where
     unreadable-case (looping q w) y f = absurd (clash f (q .accepted))
     unreadable-case (short q l) y f = absurd (clash f (q .there .accepted))
     unreadable-case (bad-byte q i l b) y f = absurd (clash f (q .free .there .accepted))
-    unreadable-case (fine q g) y f = absurd (clash f (q .free .there .accepted))
+    unreadable-case (miscounted q g) y f = absurd (clash f (q .there .free .there .accepted))
+    unreadable-case (fine q g) y f = absurd (clash f (q .there .free .there .accepted))
 
     -- of an accepted sheet the number is 0 or above 10
     accepted-case : {n p : ℕ} → QueryCase s state t n p → WellFormedSheet s → (n ≡ 0) ⊎ (10 < n)
@@ -204,6 +243,7 @@ module _ (s : List ℕ) where
     accepted-case (looping q w) k = inr (omega arith)
     accepted-case (short q l) k = inr (omega arith)
     accepted-case (bad-byte q i l b) k = inr (omega arith)
+    accepted-case (miscounted q f) k = inr (omega arith)
     accepted-case (fine q f) k = inl refl
 
     place-zero : {n p : ℕ} → QueryCase s state t n p → WellFormedSheet s → p ≡ 0
@@ -212,6 +252,7 @@ module _ (s : List ℕ) where
     place-zero (looping q w) k = refl
     place-zero (short q l) k = refl
     place-zero (bad-byte q i l b) k = refl
+    place-zero (miscounted q f) k = refl
     place-zero (fine q f) k = refl
 
     query-numbers : (r : Queried) → QueryCase s state t (reportedQuery r .number) (reportedQuery r .place) → QueryNumbers s state t r
@@ -222,6 +263,7 @@ module _ (s : List ℕ) where
       twelve = (twelve-to c, twelve-from c);
       twenty = (twenty-to c, twenty-from c);
       twenty-one = (twenty-one-to c, twenty-one-from c);
+      thirty-five = (thirty-five-to c, thirty-five-from c);
       none = (none-to c, none-from c);
       place = place-zero c;
     }
@@ -324,10 +366,34 @@ module _ (s : List ℕ) where
           by-sheet-long h Passed e = long-numbers (kept e) h
           by-sheet-long h (Failed x) e = unread-numbers x e
 
+    -- ---- reading the count
+
+    module _ (r : Counted) (q : ReadsCount s t r) where
+      count-report : (c : Check) → clearCheck s t ≡ c → reportedCount r ≡ reportedCount (answerCounted (storedCount s t) c)
+      unfolding countedOf
+      count-report c e = q .1 ∙ ap (λ (x : Check). reportedCount (answerCounted (storedCount s t) x)) e
+
+      count-numbers : CountNumbers s t r
+      count-numbers = record {
+        unreadable = λ x e. count-report (Failed x) (clear-unread x e);
+        in-order = given-in-order s (reportedCount r .number) (reportedCount r .place)
+            (λ x e. (number-at (count-report (Failed x) (clear-unread x e)), ap (λ (y : CountReport). y .place) (count-report (Failed x) (clear-unread x e))))
+            (λ e. elim (decLt (length t) (tableBytes s)) [
+              | yes h ↦ inr (omega (arith, number-at (count-report (Failed TableShort) (clear-short (kept e) h))))
+              | no h ↦ inl (number-at (count-report Passed (clear-fits (kept e) (omega arith))))
+            ]);
+        short = λ k h. count-report (Failed TableShort) (clear-short k h);
+        done = λ k h. count-report Passed (clear-fits k h);
+      }
+        where
+          number-at : {x y : CountReport} → x ≡ y → x .number ≡ y .number
+          number-at e = ap (λ (z : CountReport). z .number) e
+
 pub call-numbers : CallNumbers
 call-numbers = record {
   clears = λ s t r u q. numbers s t r u q;
   queries = λ s state t r u q.
       query-numbers s state t r
       (subst (λ (x : QueryReport). QueryCase s state t (x .number) (x .place)) (sym (q .1 .0)) (query-case s state t));
+  counts = count-numbers;
 }

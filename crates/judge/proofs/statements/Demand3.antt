@@ -24,14 +24,15 @@ use Rattle.calculus.specs.Exchange.{exchanged, exchangedRule}
 use Rattle.calculus.proofs.table1.Verdicts.{verdict-holds}
 use Rattle.calculus.proofs.exchange.Exchange.{exchanged-plan, exchanged-actions, exchanged-rule, exchanged-kept}
 use Rattle.rows.specs.Rows.{value}
-use Rattle.rows.specs.Tables.{byteAt, filled, byteOf, count}
+use Rattle.rows.specs.Tables.{byteAt, filled, byteOf}
 use Rattle.graph.specs.LoopTest.{settled, loopFree}
 use Rattle.graph.specs.Successors.{successors}
-use Rattle.judge.specs.Cells.{Cell, cell, rows, writtenRows, enough, positionOf, cellAt, cellBytes, InTable}
+use Rattle.judge.specs.Cells.{Cell, cell, rows, writtenRows, enough, positionOf, cellAt, cellBytes, tableBytes, cellsIn, InTable}
+use Rattle.judge.specs.StoredCount.{filledCells}
 use Rattle.judge.specs.Clearing.{tableCleared}
 use Rattle.judge.specs.Querying.{QueryReport, queriedOf, tableQueried, reportedQuery}
 use Rattle.judge.specs.declared.Queried.{Queried}
-use Rattle.judge.specs.declared.Queried.the-variants.{Judged, Refused}
+use Rattle.judge.specs.declared.Queried.the-variants.{Judged, WrongCount, Refused}
 use Rattle.judge.specs.OneSolution.{OneSolution}
 use Rattle.judge.specs.Lists.{reports, tableAfter, Reported, SameAnswers, visitsOf, judgedStates}
 use Rattle.judge.specs.Demand3.{RefusedState, ComesFrom, NeededFor, SameUnderExchange, ListCorrect, Demand3}
@@ -43,12 +44,13 @@ use Rattle.rows.proofs.tables.Counting.{count-le}
 use Rattle.rows.proofs.lists.FromCleared.{Cleared, cleared}
 use Rattle.judge.proofs.cells.ValidCells.{Valid}
 use Rattle.judge.proofs.cells.Ranks.{rank}
+use Rattle.judge.proofs.cells.CountLayout.{cells-byte, cells-length, filled-cells}
 use Rattle.judge.proofs.cells.CellLayout.{table-layout, solvable, position-inside, position-back}
 use Rattle.judge.proofs.truth.Truth.{verdict-truth}
 use Rattle.graph.proofs.looptest.LoopFree.{free-exactly-at, loop-reachable}
-use Rattle.judge.proofs.lists.JustCleared.{clears-long, cleared-only, cleared-length, cleared-below, cleared-above}
+use Rattle.judge.proofs.lists.JustCleared.{clears-long, cleared-only, cleared-length, cleared-below, cleared-count, cleared-above}
 use Rattle.judge.proofs.lists.Called.{gave-none, cleared-report}
-use Rattle.judge.proofs.lists.SheetLists.{takes, takes-valid, Answer, reported-map, same-answers, Takes, Fine, Run, run, starts, takenStates, taken-each}
+use Rattle.judge.proofs.lists.SheetLists.{takes, takes-valid, Answer, reported-map, same-answers, Takes, Fine, zero-fine, Run, run, starts, takenStates, taken-each}
 use Rattle.judge.proofs.statements.NeededCells.{needed-for}
 use Rattle.judge.proofs.statements.OneSolution.{Settled, written-falls, comes-settled, comes-on, solves}
 use Rattle.judge.proofs.exchange.ExchangedRows.{exchange-value, exchange-holds}
@@ -60,6 +62,7 @@ solutionOf s = value (rows (planBody s) (actionsBody s) (ruleBody s)) enough
 -- what a refused query reports
 refused-report : (q : Queried) → reportedQuery q .number ≢ 0 → (reportedQuery q .verdict ≡ false) × (reportedQuery q .visits ≡ 0)
 refused-report (Judged v n) h = absurd (h refl)
+refused-report WrongCount h = (refl, refl)
 refused-report (Refused x) h = (refl, refl)
 
 refused-reports : (s states u : List ℕ) → Reported (λ state q. q .number ≢ 0 → (q .verdict ≡ false) × (q .visits ≡ 0)) states (reports s u states)
@@ -116,7 +119,7 @@ module _ (s : List ℕ) (accepted : sheetCheck s ≡ Passed) where
   table1 state h = Iff·trans (verdict-truth (planBody s) (actionsBody s) (ruleBody s) bodies state (below state h) (settles state h)) (verdict-holds s state (below state h))
 
   -- from a table just cleared
-  module _ (t : List ℕ) (fits : cellBytes s ≤ length t) (states : List ℕ) where
+  module _ (t : List ℕ) (fits : tableBytes s ≤ length t) (states : List ℕ) where
     abbrev u : List ℕ
     u = tableCleared s t
 
@@ -126,14 +129,17 @@ module _ (s : List ℕ) (accepted : sheetCheck s ≡ Passed) where
     abbrev cells : List Cell
     cells = starts s accepted taken
 
-    long : cellBytes s ≤ length u
-    long = rw (cleared-length s t accepted fits) fits
+    table-long : tableBytes s ≤ length u
+    table-long = rw (cleared-length s t accepted fits) fits
 
-    clear : (i : ℕ) → i < cellBytes s → byteAt u i ≡ 0
-    clear = cleared-below s t accepted fits
+    long : cellBytes s ≤ length (cellsIn s u)
+    long = omega (arith, cells-length s u table-long)
+
+    clear : (i : ℕ) → i < cellBytes s → byteAt (cellsIn s u) i ≡ 0
+    clear i h = cells-byte s u i h ∙ cleared-below s t accepted fits i (omega arith)
 
     fine : Fine s accepted u
-    fine = record { long = long; small = λ i h. omega (arith, clear i h) }
+    fine = zero-fine s accepted u table-long (cleared-below s t accepted fits)
 
     ran : Run s accepted states u taken
     ran = run s accepted solved start states u fine
@@ -142,14 +148,14 @@ module _ (s : List ℕ) (accepted : sheetCheck s ≡ Passed) where
     taken-settled : Each (λ state. Settled s accepted (cell 0 0 state)) taken
     taken-settled = each-map (λ state h. start state h) taken (taken-each s accepted states)
 
-    left : Cleared solved u long clear cells (tableAfter s u states)
-    left = subst (Cleared solved u long clear cells) (sym (ran .ends)) (cleared solved u long clear cells (starts-each taken taken-settled))
+    left : Cleared solved (cellsIn s u) long clear cells (cellsIn s (tableAfter s u states))
+    left = subst (Cleared solved (cellsIn s u) long clear cells) (sym (ran .ends)) (cleared solved (cellsIn s u) long clear cells (starts-each taken taken-settled))
 
     answers : Reported (Answer (planBody s) (solutionOf s)) states (reports s u states)
     answers = ran .answers _ (left .verdicts)
 
-    total-is : visitsOf (reports s u states) ≡ count (cellBytes s) (λ i. filled (byteAt (tableAfter s u states) i))
-    total-is = ran .sum ∙ left .sum
+    total-is : visitsOf (reports s u states) ≡ filledCells s (tableAfter s u states)
+    total-is = ran .sum ∙ left .sum ∙ sym (filled-cells s (tableAfter s u states))
 
   -- the exchanged sheet of a guarded rule
   module _ (whole : guardedRule s ≡ true) (choice : ℕ → Bool) where
@@ -186,7 +192,7 @@ module _ (s : List ℕ) (accepted : sheetCheck s ≡ Passed) where
         Iff·trans (Iff·symm (verdict-holds s state (below state h)))
         (Iff·trans (same-holds state h) (verdict-holds other state (rw other-plan (below state h))))
 
-module _ (s : List ℕ) (accepted : sheetCheck s ≡ Passed) (t : List ℕ) (fits : cellBytes s ≤ length t) (states : List ℕ) where
+module _ (s : List ℕ) (accepted : sheetCheck s ≡ Passed) (t : List ℕ) (fits : tableBytes s ≤ length t) (states : List ℕ) where
   exchanges : guardedRule s ≡ true → (choice : ℕ → Bool) → SameUnderExchange s states (reports s (tableCleared s t) states) choice
   exchanges whole choice = record {
     accepted = other-accepted s accepted whole choice;
@@ -210,9 +216,13 @@ module _ (s : List ℕ) (accepted : sheetCheck s ≡ Passed) (t : List ℕ) (fit
   abbrev after : List ℕ
   after = tableAfter s (tableCleared s t) states
 
+  -- a byte of a cell
+  at-cell : (i : ℕ) → i < cellBytes s → byteAt after i ≡ byteAt (cellsIn s after) i
+  at-cell i h = sym (cells-byte s after i h)
+
   exactly : (i : ℕ) → i < cellBytes s
       → filled (byteAt after i) ≡ neededFor (positionOf (ruleBody s)) (rows (planBody s) (actionsBody s) (ruleBody s)) enough (starts s accepted (takenStates s accepted states)) i
-  exactly = left s accepted t fits states .exactly
+  exactly i h = ap filled (at-cell i h) ∙ left s accepted t fits states .exactly i h
 
   -- the cells that the queries of some states can come to
   come-settled : (l : List ℕ) → Each (λ state. Settled s accepted (cell 0 0 state)) l → (c : Cell) → ComesFrom s l c → Settled s accepted c
@@ -238,11 +248,12 @@ module _ (s : List ℕ) (accepted : sheetCheck s ≡ Passed) (t : List ℕ) (fit
     cells = λ c h. subst (λ (l : List ℕ). (filled (cellByte s after c) ≡ true) ↔ NeededFor s (solutionOf s) l c) (sym judged) (needed c h);
     solved = λ c h f.
         let i = positionOf (ruleBody s) c in
-        left s accepted t fits states .solved i (position-inside s c h) (sym (exactly i (position-inside s c h)) ∙ f) ∙ ap (λ (d : Cell). byteOf (solutionOf s d)) (position-back s c h);
-    empties = λ c h f. let i = positionOf (ruleBody s) c in left s accepted t fits states .unsolved i (position-inside s c h) (sym (exactly i (position-inside s c h)) ∙ f);
-    after-cells = λ i h. left s accepted t fits states .above i h ∙ cleared-above s t accepted fits i h;
-    length-kept = left s accepted t fits states .long ∙ cleared-length s t accepted fits;
+        at-cell i (position-inside s c h) ∙ left s accepted t fits states .solved i (position-inside s c h) (sym (exactly i (position-inside s c h)) ∙ f) ∙ ap (λ (d : Cell). byteOf (solutionOf s d)) (position-back s c h);
+    empties = λ c h f. let i = positionOf (ruleBody s) c in at-cell i (position-inside s c h) ∙ left s accepted t fits states .unsolved i (position-inside s c h) (sym (exactly i (position-inside s c h)) ∙ f);
+    past = λ i h. ran s accepted t fits states .past i h ∙ cleared-above s t accepted fits i h;
+    length-kept = ran s accepted t fits states .kept ∙ cleared-length s t accepted fits;
     sum = total-is s accepted t fits states;
+    stored = ran s accepted t fits states .counted ∙ omega (arith, cleared-count s t accepted fits, ran s accepted t fits states .sum);
     at-most = rw (total-is s accepted t fits states) (count-le (cellBytes s) _);
   }
     where

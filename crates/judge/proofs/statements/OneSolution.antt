@@ -10,7 +10,7 @@ use Rattle.sheet.specs.Reading.{sheetCheck}
 use Rattle.sheet.specs.declared.Check.the-variants.{Passed}
 use Rattle.rows.specs.Rows.{Row, value}
 use Rattle.graph.specs.Loops.{Way, last, first}
-use Rattle.judge.specs.Cells.{Cell, cell, enough, positionOf, writtenRows}
+use Rattle.judge.specs.Cells.{Cell, cell, enough, positionOf, writtenRows, cellsIn}
 use Rattle.judge.specs.OneSolution.{changedRows, LoopFreeCell, ComesTo, OneSolution, RowsHaveOneSolution}
 use Rattle.graph.proofs.looptest.Settled.{way-on}
 use Rattle.rows.proofs.systems.Members.{each-at, all-each}
@@ -57,7 +57,7 @@ module _ (s : List ℕ) (accepted : sheetCheck s ≡ Passed) where
   written-falls = falling (bodies-kept s accepted)
 
   pub changed-falls : (t : List ℕ) → Ranked (changedRows s t)
-  changed-falls t = changed-falling (positionOf (ruleBody s)) (writtenRows s) written-falls t
+  changed-falls t = changed-falling (positionOf (ruleBody s)) (writtenRows s) written-falls (cellsIn s t)
 
   -- rows along which the rank falls
   module _ (R : Cell → Row Cell) (falls : Ranked R) where

@@ -29,8 +29,8 @@ use Rattle.rows.specs.Rows.{joined, looked, value, need}
 use Rattle.graph.specs.LoopTest.{allPass, settled}
 use Rattle.rows.specs.Tables.{count, rewritten, among, changed, fills, filling, query}
 use Rattle.graph.specs.Successors.{targets}
-use Rattle.judge.specs.Cells.{following, rows, cellBytes}
-use Rattle.judge.specs.Querying.{bytesRight, queryCheck, queriedOf, tableQueried, QueryReport, reportedQuery}
+use Rattle.judge.specs.Cells.{following, rows, tableBytes}
+use Rattle.judge.specs.Querying.{bytesRight, queryCheck, countRight, queriedOf, tableQueried, QueryReport, reportedQuery}
 use Rattle.judge.specs.Lists.{reports}
 use Rattle.judge.specs.Demand3.{ListCorrect}
 use Rattle.calculus.specs.KeySheet.{K}
@@ -39,11 +39,14 @@ use Rattle.judge.proofs.lists.Called.{cleared-report}
 use Rattle.judge.proofs.statements.RunningCalls.{delivered}
 use Rattle.judge.proofs.lists.LongerTables.{reports-cleared}
 
--- on the cleared bytes alone: what follows them is not looked at
-asked : (s : List ℕ) (states : List ℕ) (answers : List QueryReport) → sheetCheck s ≡ Passed → reports s (replicate (cellBytes s) 0) states ≡ answers → Asked s (cellBytes s) states answers
-asked s states answers accepted e t fits r u reported left c q =
-    let same : reported ≡ answers = cleared-report s t states r u reported left c q ∙ reports-cleared s accepted states t fits ∙ e in
-    (same, subst (λ (x : List QueryReport). ListCorrect s t states x left) same (delivered .lists s t states r u reported left c (delivered .clears s t r u c accepted fits) q))
+-- on the cleared bytes alone: what is past them is not looked at
+asked : (s : List ℕ) (states : List ℕ) (answers : List QueryReport) → sheetCheck s ≡ Passed → reports s (replicate (tableBytes s) 0) states ≡ answers → Asked s (tableBytes s) states answers
+asked s states answers accepted e = record {
+  table-size = refl;
+  report = λ t fits r u reported left c q.
+      let same : reported ≡ answers = cleared-report s t states r u reported left c q ∙ reports-cleared s accepted states t fits ∙ e in
+      (same, subst (λ (x : List QueryReport). ListCorrect s t states x left) same (delivered .lists s t states r u reported left c (delivered .clears s t r u c accepted fits) q));
+}
 
 anywhere : (s : List ℕ) (answer : QueryReport) → ((t : List ℕ) → reportedQuery (queriedOf s 0 t) ≡ answer) → AskedAnywhere s answer
 anywhere s answer e t r u q = q .1 .0 ∙ e t
@@ -69,7 +72,7 @@ word s w accepted small same = record {
 }
 
 pub sheets-to-try : SheetsToTry
-unfolding bit sheetOf sheetCheck headingRight contentsRight entryIs bodiesCheck planCheck planSized lowestFrom transitionFaulty actionsCheck actionsSized entryFaulty entryRight ruleCheck ruleSized extent bindersBefore binderNode endWithin bindingFaulty transitionsFrom actionWithin formulaWithin meets guarded guardedIn eval rounds tabulate valuesBelow anyTransition departs joined looked value need allPass settled count rewritten among changed fills filling query following rows targets bytesRight queryCheck queriedOf tableQueried reports
+unfolding bit sheetOf sheetCheck headingRight contentsRight entryIs bodiesCheck planCheck planSized lowestFrom transitionFaulty actionsCheck actionsSized entryFaulty entryRight ruleCheck ruleSized extent bindersBefore binderNode endWithin bindingFaulty transitionsFrom actionWithin formulaWithin meets guarded guardedIn eval rounds tabulate valuesBelow anyTransition departs joined looked value need allPass settled count rewritten among changed fills filling query following rows targets bytesRight queryCheck countRight queriedOf tableQueried reports
 sheets-to-try = record {
   key-length = refl;
   p1 = asked K (0 ∷ []) (judged true 17 ∷ []) refl refl;

@@ -10,7 +10,6 @@ use lib.Dec.{leb}
 use borrow.Author.Tests.{lt-ltb, le-ltb}
 use Rattle.sheet.specs.Contents.{planBody}
 use Rattle.sheet.specs.Plan.{stateCount}
-use Rattle.sheet.specs.Rule.{nodeCount, ruleSized, syntaxFault, lowestBinding}
 use Rattle.sheet.proofs.acceptance.Numbers.{low-refusal}
 use Rattle.sheet.specs.Refusals.{numberOf, require, andThen}
 use Rattle.sheet.specs.Reading.{sheetCheck}
@@ -21,16 +20,16 @@ use Rattle.sheet.specs.declared.Check.the-variants.{Passed, Failed}
 use Rattle.sheet.specs.WellFormed.{WellFormedPlan}
 use Rattle.graph.specs.Loops.{LoopReachable}
 use Rattle.graph.specs.Successors.{successors}
-use Rattle.judge.specs.Cells.{cellBytes}
+use Rattle.judge.specs.Cells.{cellBytes, tableBytes}
 use Rattle.graph.specs.LoopTest.{loopFree}
-use Rattle.judge.specs.Querying.{bytesRight, queryCheck, resultOf, answerQueried, queriedOf, reportedQuery, queryReportOf, TwelveExactly}
+use Rattle.judge.specs.Querying.{bytesRight, queryCheck, countRight, resultOf, answerQueried, queriedOf, reportedQuery, queryReportOf, TwelveExactly}
 use Rattle.graph.proofs.looptest.LoopFree.{free-exactly-at, loop-reachable}
 use Rattle.sheet.proofs.acceptance.Parts.{bodies-kept}
 
 -- what a query reports where the sheet is accepted and has the state
 module _ (s : List ℕ) (state : ℕ) (t : List ℕ) (accepted : sheetCheck s ≡ Passed) (h : state < stateCount (planBody s)) where
   abbrev last-checks : Check
-  last-checks = andThen (require (leb (cellBytes s) (length t)) TableShort) (require (bytesRight (cellBytes s) t) TableByte)
+  last-checks = andThen (require (leb (tableBytes s) (length t)) TableShort) (require (bytesRight (cellBytes s) t) TableByte)
 
   looping : loopFree (planBody s) state ≡ false → queryReportOf s state t .number ≡ 12
   unfolding queriedOf queryCheck
@@ -38,15 +37,16 @@ module _ (s : List ℕ) (state : ℕ) (t : List ℕ) (accepted : sheetCheck s �
 
   not-looping : loopFree (planBody s) state ≡ true → queryReportOf s state t .number ≡ 12 → ⊥
   unfolding queriedOf queryCheck
-  not-looping e n = later (leb (cellBytes s) (length t)) (bytesRight (cellBytes s) t) (sym other ∙ n)
+  not-looping e n = later (leb (tableBytes s) (length t)) (bytesRight (cellBytes s) t) (countRight s t) (sym other ∙ n)
     where
-      other : reportedQuery (answerQueried (resultOf s state t) (queryCheck s state t)) .number ≡ reportedQuery (answerQueried (resultOf s state t) last-checks) .number
+      other : reportedQuery (answerQueried (resultOf s state t) (queryCheck s state t) (countRight s t)) .number ≡ reportedQuery (answerQueried (resultOf s state t) last-checks (countRight s t)) .number
       other = rw (accepted, lt-ltb state (stateCount (planBody s)) h, e)
 
-      later : (long right : Bool) → reportedQuery (answerQueried (resultOf s state t) (andThen (require long TableShort) (require right TableByte))) .number ≡ 12 → ⊥
-      later true true n = omega arith
-      later true false n = omega arith
-      later false right n = omega arith
+      later : (long right counted : Bool) → reportedQuery (answerQueried (resultOf s state t) (andThen (require long TableShort) (require right TableByte)) counted) .number ≡ 12 → ⊥
+      later true true true n = omega arith
+      later true true false n = omega arith
+      later true false counted n = omega arith
+      later false right counted n = omega arith
 
 -- so a sheet that is not accepted, or has no such state, gives another number
 not-accepted : (s : List ℕ) (state : ℕ) (t : List ℕ) (x : Refusal) → sheetCheck s ≡ Failed x → queryReportOf s state t .number ≡ numberOf x

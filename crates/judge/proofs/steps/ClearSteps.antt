@@ -8,7 +8,7 @@ use Rattle.sheet.specs.Reading.{sheetCheck}
 use Rattle.sheet.specs.declared.Refusal.{Refusal}
 use Rattle.sheet.specs.declared.Refusal.the-variants.{TableShort}
 use Rattle.sheet.specs.declared.Check.the-variants.{Passed, Failed}
-use Rattle.judge.specs.Cells.{cellBytes}
+use Rattle.judge.specs.Cells.{tableBytes}
 use Rattle.judge.specs.Clearing.{clearCheck, clearedOf, tableCleared, reportedClear, Clears}
 use Rattle.judge.specs.declared.Cleared.{Cleared}
 use Rattle.judge.specs.declared.Cleared.the-variants.{Done, Refused}
@@ -26,14 +26,14 @@ module _ (s t : List ℕ) where
   clears-refused x e = answers (Refused x) t (rw e) (rw e)
 
   module _ (e : sheetCheck s ≡ Passed) where
-    pub clears-short : length t < cellBytes s → Answers (Refused TableShort) t
+    pub clears-short : length t < tableBytes s → Answers (Refused TableShort) t
     unfolding clearedOf tableCleared clearCheck
     clears-short h =
-        let f = lt-leb (cellBytes s) (length t) h in
+        let f = lt-leb (tableBytes s) (length t) h in
         answers (Refused TableShort) t (rw (e, f)) (rw (e, f))
 
-    pub clears-done : cellBytes s ≤ length t → (now : List ℕ) → now ≡ replicate (cellBytes s) 0 ++ drop (cellBytes s) t → Answers Done now
+    pub clears-done : tableBytes s ≤ length t → (now : List ℕ) → now ≡ replicate (tableBytes s) 0 ++ drop (tableBytes s) t → Answers Done now
     unfolding clearedOf tableCleared clearCheck
     clears-done h now g =
-        let f = le-leb (cellBytes s) (length t) h in
+        let f = le-leb (tableBytes s) (length t) h in
         answers Done now (rw (e, f)) (rw (e, f) g)

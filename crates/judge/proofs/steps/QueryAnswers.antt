@@ -1,78 +1,39 @@
 -- What the code of a query shows: each answer is the one that the checks give.
-use Prim.Native.Nat.{ℕ, _+_, _-_, _<_, _≤_}
-use mathlib.Core.Path.{_≡_, refl, sym, ap, _∙_}
-use mathlib.Core.Bool.{Bool, true, false}
-use mathlib.Core.List.{List}
+use Prim.Native.Nat.{ℕ, _+_, _<_, _≤_}
+use mathlib.Core.Path.{_≡_, refl, sym, ap, ap₂, _∙_}
+use mathlib.Core.Bool.{Bool, true, false, true≢false}
+use mathlib.Core.List.{List, _++_}
+use mathlib.Core.Logic.{_≢_}
 use native.Mathlib.Omega.{arith}
-use native.Mathlib.Decide.{decLt}
-use lib.ListN.{length}
-use lib.Dec.{ltb, leb}
-use borrow.Author.Tests.{lt-ltb, le-ltb, le-leb, lt-leb, eq-eqb, ne-eqb}
-use Rattle.sheet.specs.Bytes.{pick, lowestFrom, lowest}
+use lib.ListN.{length, take, drop}
+use lib.Seq.{length-take-le, take-append-seam, drop-append-add, drop-drop}
+use borrow.Author.Tests.{lt-ltb, le-ltb, le-leb, lt-leb, eq-eqb, ne-eqb, eqb-true}
+use Rattle.sheet.specs.Bytes.{pick}
 use Rattle.sheet.proofs.acceptance.Parts.{rule-kept}
-use Rattle.sheet.proofs.checks.Lowest.{search-start, search-here, search-next, search-end}
-use Rattle.sheet.specs.Contents.{planBody}
+use Rattle.sheet.specs.Contents.{planBody, ruleBody}
 use Rattle.sheet.specs.Plan.{stateCount}
 use Rattle.sheet.specs.Reading.{sheetCheck}
 use Rattle.sheet.specs.declared.Refusal.{Refusal}
 use Rattle.sheet.specs.declared.Refusal.the-variants.{NoSuchState, Loop, TableShort, TableByte}
 use Rattle.sheet.specs.declared.Check.the-variants.{Passed, Failed}
-use Rattle.rows.specs.Tables.{byteAt, Result, out, verdict, visits, table}
-use Rattle.judge.specs.Cells.{cell, cellBytes}
+use Rattle.rows.specs.Tables.{byteAt, filled, count, Result, out, verdict, visits, table}
+use Rattle.judge.specs.Cells.{cell, writtenRows, enough, positionOf, cellAt, cellBytes, tableBytes, cellsIn, countBytes}
+use Rattle.judge.specs.StoredCount.{inFourBytes, storedCount, filledCells, tableWith}
 use Rattle.graph.specs.LoopTest.{loopFree}
-use Rattle.judge.specs.Querying.{bytesRight, queryCheck, resultOf, queriedOf, tableQueried, reportedQuery, Queries}
+use Rattle.judge.specs.Querying.{bytesRight, queryCheck, countRight, resultAt, resultOf, queriedOf, tableQueried, reportedQuery, Queries}
 use Rattle.judge.specs.internal.Deciding.{DecideRequires, Decided}
 use Rattle.judge.specs.internal.Packed.{verdictIn, visitsIn}
 use Rattle.judge.specs.internal.Index.{QueryRequires}
+use Rattle.judge.specs.internal.Scanning.{scanOf}
+use Rattle.judge.specs.internal.Judging.{TableRequires}
 use Rattle.judge.specs.declared.Queried.{Queried}
-use Rattle.judge.specs.declared.Queried.the-variants.{Judged, Refused}
-
--- a byte over 2 below size, or none
-byte-over : (size : ℕ) (t : List ℕ) (i : ℕ) → i ≡ lowest (λ j. ltb 2 (byteAt t j)) size → i < size → false ≡ bytesRight size t
-unfolding bytesRight
-byte-over size t i e h = sym (ne-eqb (lowest (λ j. ltb 2 (byteAt t j)) size) size (λ q. omega arith))
-
-bytes-fine : (size : ℕ) (t : List ℕ) (i : ℕ) → i ≡ lowest (λ j. ltb 2 (byteAt t j)) size → size ≤ i → i ≤ size → true ≡ bytesRight size t
-unfolding bytesRight
-bytes-fine size t i e h l = sym (eq-eqb (lowest (λ j. ltb 2 (byteAt t j)) size) size (omega arith))
-
--- the larger of two numbers is over 2 exactly when one of them is
-larger-fine : (a b : ℕ) → a ≤ 2 → b ≤ 2 → pick (ltb a b) b a ≤ 2
-larger-fine a b ha hb = elim (decLt a b) [
-  | yes l ↦ rw (lt-ltb a b l) hb
-  | no l ↦ rw (le-ltb a b (omega arith)) ha
-]
-
-larger-left : (a b : ℕ) → 2 < a → 2 < pick (ltb a b) b a
-larger-left a b h = elim (decLt a b) [
-  | yes l ↦ rw (lt-ltb a b l) (omega arith)
-  | no l ↦ rw (le-ltb a b (omega arith)) h
-]
-
-larger-right : (a b : ℕ) → 2 < b → 2 < pick (ltb a b) b a
-larger-right a b h = elim (decLt a b) [
-  | yes l ↦ rw (lt-ltb a b l) h
-  | no l ↦ rw (le-ltb a b (omega arith)) (omega arith)
-]
-
--- what the largest of the bytes before i tells: none of them is over 2, or some byte is
-pub data Largest (size : ℕ) (t : List ℕ) (i most : ℕ) : Type 0 where
-  fine : most ≤ 2 → lowestFrom (λ j. ltb 2 (byteAt t j)) (size - i) i ≡ lowest (λ j. ltb 2 (byteAt t j)) size → Largest size t i most
-  over : 2 < most → false ≡ bytesRight size t → Largest size t i most
-
-pub largest-next : (size : ℕ) (t : List ℕ) (i most : ℕ) → i < size → Largest size t i most → Largest size t (i + 1) (pick (ltb most (byteAt t i)) (byteAt t i) most)
-largest-next size t i most h (fine l q) = elim (decLt 2 (byteAt t i)) [
-  | yes g ↦ over (larger-right most (byteAt t i) g) (byte-over size t i (search-here (λ j. ltb 2 (byteAt t j)) size i _ h (lt-ltb 2 (byteAt t i) g) q) h)
-  | no g ↦ fine (larger-fine most (byteAt t i) l (omega arith)) (search-next (λ j. ltb 2 (byteAt t j)) size i _ h (le-ltb 2 (byteAt t i) (omega arith)) q)
-]
-largest-next size t i most h (over l q) = over (larger-left most (byteAt t i) l) q
-
-pub largest-start : (size : ℕ) (t : List ℕ) → Largest size t 0 0
-largest-start size t = fine (omega arith) (search-start (λ j. ltb 2 (byteAt t j)) size size refl)
-
-pub largest-end : (size : ℕ) (t : List ℕ) (i most : ℕ) → size ≤ i → i ≤ size → Largest size t i most → leb most 2 ≡ bytesRight size t
-largest-end size t i most h g (fine l q) = le-leb most 2 l ∙ bytes-fine size t i (search-end (λ j. ltb 2 (byteAt t j)) size i _ h q) h g
-largest-end size t i most h g (over l q) = lt-leb most 2 l ∙ q
+use Rattle.judge.specs.declared.Queried.the-variants.{Judged, WrongCount, Refused}
+use Rattle.judge.specs.declared.Scanned.{Scanned}
+use Rattle.judge.specs.declared.Scanned.the-variants.{ByteOver, Filled}
+use Rattle.rows.proofs.tables.Counting.{count-le}
+use Rattle.rows.proofs.lists.Lists.{query-length}
+use Rattle.judge.proofs.steps.DecideSteps.{size-small}
+use Rattle.judge.proofs.cells.CountLayout.{cells-length, filled-cells, bytes-cells}
 
 module _ (s : List ℕ) (state : ℕ) (t : List ℕ) where
   -- the clauses of the contract
@@ -85,6 +46,10 @@ module _ (s : List ℕ) (state : ℕ) (t : List ℕ) where
   by-check : (x : Refusal) → queryCheck s state t ≡ Failed x → Answers (Refused x) t
   unfolding queriedOf tableQueried
   by-check x e = answers (Refused x) t (rw e) (rw e)
+
+  by-count : queryCheck s state t ≡ Passed → countRight s t ≡ false → Answers WrongCount t
+  unfolding queriedOf tableQueried
+  by-count e f = answers WrongCount t (rw (e, f)) (rw (e, f))
 
   pub answers-refused : (x : Refusal) → sheetCheck s ≡ Failed x → Answers (Refused x) t
   unfolding queryCheck
@@ -100,38 +65,113 @@ module _ (s : List ℕ) (state : ℕ) (t : List ℕ) where
       unfolding queryCheck
       answers-loop f = by-check Loop (rw (e, lt-ltb state (stateCount (planBody s)) h, f))
 
+-- the cases of a pass apart
+abbrev isOver : Scanned → Bool
+isOver ByteOver = true
+isOver (Filled n) = false
+
+abbrev filledIn : Scanned → ℕ
+filledIn ByteOver = 0
+filledIn (Filled n) = n
+
+over-apart : {n : ℕ} → ByteOver ≡ Filled n → ⊥
+over-apart p = true≢false (ap isOver p)
+
+filled-same : {n m : ℕ} → Filled n ≡ Filled m → n ≡ m
+filled-same p = ap filledIn p
+
 -- with all prepared
 module _ {s index : List ℕ} {state : ℕ} (q : QueryRequires s index state) (t : List ℕ) where
-  pub answers-short : length t < cellBytes s → Queries s state t (Refused TableShort) t
+  pub answers-short : length t < tableBytes s → Queries s state t (Refused TableShort) t
   unfolding queryCheck
   answers-short l =
-      by-check s state t TableShort (rw (q .accepted, lt-ltb state (stateCount (planBody s)) (q .state-below), q .loop-free, lt-leb (cellBytes s) (length t) l))
+      by-check s state t TableShort (rw (q .accepted, lt-ltb state (stateCount (planBody s)) (q .state-below), q .loop-free, lt-leb (tableBytes s) (length t) l))
 
-  module _ (l : cellBytes s ≤ length t) where
+  module _ (l : tableBytes s ≤ length t) where
     pub answers-bad-byte : bytesRight (cellBytes s) t ≡ false → Queries s state t (Refused TableByte) t
     unfolding queryCheck
     answers-bad-byte g =
         by-check s state t TableByte
-        (rw (q .accepted, lt-ltb state (stateCount (planBody s)) (q .state-below), q .loop-free, le-leb (cellBytes s) (length t) l, g))
+        (rw (q .accepted, lt-ltb state (stateCount (planBody s)) (q .state-below), q .loop-free, le-leb (tableBytes s) (length t) l, g))
 
     passes : bytesRight (cellBytes s) t ≡ true → queryCheck s state t ≡ Passed
     unfolding queryCheck
-    passes g = rw (q .accepted, lt-ltb state (stateCount (planBody s)) (q .state-below), q .loop-free, le-leb (cellBytes s) (length t) l, g)
+    passes g = rw (q .accepted, lt-ltb state (stateCount (planBody s)) (q .state-below), q .loop-free, le-leb (tableBytes s) (length t) l, g)
 
-    pub answers-judged : bytesRight (cellBytes s) t ≡ true → (w : ℕ) (v : Bool) (n : ℕ) (u : List ℕ)
-        → Decided s (cell 0 0 state) t w u → v ≡ verdictIn w → n ≡ visitsIn w → Queries s state t (Judged v n) u
-    unfolding queriedOf tableQueried
-    answers-judged g w v n u d p e =
-        let r : out v n u ≡ resultOf s state t = (λ i. out (p i) (e i) u) ∙ d .result in
-        answers s state t (Judged v n) u (rw (passes g) (ap (λ (x : Result). Judged (verdict x) (visits x)) r)) (rw (passes g) (ap table r))
+    -- the pass over the cells told this
+    module _ {cells : ℕ} (told : Scanned) (e : told ≡ scanOf (take cells t)) (size : cells ≡ cellBytes s) where
+      told-by : told ≡ pick (bytesRight (cellBytes s) t) (Filled (filledCells s t)) ByteOver
+      unfolding scanOf
+      told-by =
+          e ∙ ap (λ (k : ℕ). scanOf (take k t)) size
+          ∙ ap (λ (k : ℕ). pick (bytesRight k (cellsIn s t)) (Filled (count k (λ i. filled (byteAt (cellsIn s t) i)))) ByteOver) (cells-length s t l)
+          ∙ ap₂ (λ (b : Bool) (n : ℕ). pick b (Filled n) ByteOver) (bytes-cells s t) (sym (filled-cells s t))
 
-    pub root-decidable : DecideRequires s index t (cell 0 0 state)
-    root-decidable = record {
-      accepted = q .accepted;
-      prepared = q .prepared;
-      room = l;
-      node-below = rule-kept s (q .accepted) .some-nodes;
-      state-below = q .state-below;
-      state-settled = q .loop-free;
-      mark-right = tt;
-    }
+      pub told-over : told ≡ ByteOver → bytesRight (cellBytes s) t ≡ false
+      told-over o = go (bytesRight (cellBytes s) t) refl (sym o ∙ told-by)
+        where
+          go : (b : Bool) → bytesRight (cellBytes s) t ≡ b → ByteOver ≡ pick b (Filled (filledCells s t)) ByteOver → bytesRight (cellBytes s) t ≡ false
+          go true r p = absurd (over-apart p)
+          go false r p = r
+
+      pub told-filled : {n : ℕ} → told ≡ Filled n → (bytesRight (cellBytes s) t ≡ true) × (n ≡ filledCells s t)
+      told-filled {n} o = go (bytesRight (cellBytes s) t) refl (sym o ∙ told-by)
+        where
+          go : (b : Bool) → bytesRight (cellBytes s) t ≡ b → Filled n ≡ pick b (Filled (filledCells s t)) ByteOver → (bytesRight (cellBytes s) t ≡ true) × (n ≡ filledCells s t)
+          go true r p = (r, filled-same p)
+          go false r p = absurd (over-apart (sym p))
+
+    pub count-told : storedCount s t ≡ filledCells s t → countRight s t ≡ true
+    unfolding countRight
+    count-told e = eq-eqb (storedCount s t) (filledCells s t) e
+
+    pub answers-miscounted : bytesRight (cellBytes s) t ≡ true → storedCount s t ≢ filledCells s t → Queries s state t WrongCount t
+    unfolding countRight
+    answers-miscounted g f = by-count s state t (passes g) (ne-eqb (storedCount s t) (filledCells s t) f)
+
+-- on a table that is taken
+module _ {s index : List ℕ} {state : ℕ} {t : List ℕ} {cells stored : ℕ} (q : TableRequires s index state t cells stored) where
+  abbrev held : List ℕ
+  held = take cells t
+
+  pub held-cells : held ≡ cellsIn s t
+  held-cells = ap (λ (k : ℕ). take k t) (q .cells-are)
+
+  pub root-decidable : DecideRequires s index held (cell 0 0 state)
+  root-decidable = record {
+    accepted = q .query .accepted;
+    prepared = q .query .prepared;
+    room = omega (arith, ap length held-cells, cells-length s t (q .long));
+    node-below = rule-kept s (q .query .accepted) .some-nodes;
+    state-below = q .query .state-below;
+    state-settled = q .query .loop-free;
+    mark-right = tt;
+  }
+
+  -- the count stays small
+  pub count-fits : (w n : ℕ) (left : List ℕ) → Decided s (cell 0 0 state) held w left → n ≡ visitsIn w → stored + n < 4294967296
+  unfolding countRight
+  count-fits w n left d e =
+      let counted = eqb-true (storedCount s t) (filledCells s t) (q .count-right) in
+      let few = count-le (cellBytes s) (λ i. filled (byteAt t i)) in
+      omega (arith, q .stored-is, counted, few, size-small s (q .query .accepted), d .small)
+
+  -- the cells that were decided, and then the count after them
+  pub answers-judged : (w : ℕ) (v : Bool) (n : ℕ) (left u : List ℕ)
+      → Decided s (cell 0 0 state) held w left → v ≡ verdictIn w → n ≡ visitsIn w
+      → u ≡ take cells (left ++ drop cells t) ++ (inFourBytes (stored + n) ++ drop (cells + countBytes) (left ++ drop cells t)) → Queries s state t (Judged v n) u
+  unfolding queriedOf tableQueried
+  answers-judged w v n left u d p e f =
+      let size : length left ≡ cells =
+      ap (λ (x : Result). length (table x)) (d .result)
+      ∙ query-length (positionOf (ruleBody s)) (cellBytes s) (cellAt (ruleBody s)) (writtenRows s) enough held (cell 0 0 state)
+      ∙ length-take-le cells t (omega (arith, q .cells-are, q .long)) in
+      let front : take cells (left ++ drop cells t) ≡ left = ap (λ (k : ℕ). take k (left ++ drop cells t)) (sym size) ∙ take-append-seam left (drop cells t) in
+      let back : drop (cells + countBytes) (left ++ drop cells t) ≡ drop (cells + countBytes) t =
+      ap (λ (k : ℕ). drop (k + countBytes) (left ++ drop cells t)) (sym size) ∙ drop-append-add left (drop cells t) countBytes ∙ drop-drop countBytes cells t in
+      let r : out v n left ≡ resultOf s state t = (λ i. out (p i) (e i) left) ∙ d .result ∙ ap (resultAt s (cell 0 0 state)) held-cells in
+      let checked = passes (q .query) t (q .long) (q .bytes-right) in
+      answers s state t (Judged v n) u
+      (rw (checked, q .count-right) (ap (λ (x : Result). Judged (verdict x) (visits x)) r))
+      (rw (checked, q .count-right) (f ∙ ap₂ (λ (a b : List ℕ). a ++ (inFourBytes (stored + n) ++ b)) front back ∙ ap₂ (λ (k c : ℕ). left ++ (inFourBytes (k + n) ++ drop (c + countBytes) t)) (q .stored-is) (q .cells-are)
+      ∙ ap (λ (x : Result). tableWith s (table x) (storedCount s t + visits x) t) r))

@@ -58,6 +58,12 @@ pub record QueryRequires (s index : List ℕ) (state : ℕ) : Type 0 where
   pub loop-free : loopFree (planBody s) state ≡ true
   pub prepared : Prepared s index state
 
+-- an accepted sheet, and an index that says how many nodes and marks it has
+pub record HeadRight (s index : List ℕ) : Type 0 where
+  pub accepted : sheetCheck s ≡ Passed
+  pub nodes-are : getD index nodesAt 0 ≡ nodeCount (ruleBody s)
+  pub marks-are : getD index marksAt 0 ≡ marks (ruleBody s)
+
 -- variable k is one of six, and its place in the index holds one of the rule's nodes
 pub record BinderAt (index : List ℕ) (k : ℕ) : Type 0 where
   pub variable-below : k < 6

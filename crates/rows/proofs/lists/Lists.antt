@@ -5,12 +5,18 @@ use Prim.Native.Nat.{ℕ, _+_, _≤_}
 use native.Mathlib.Omega.{arith}
 use lib.ListN.{length}
 use Rattle.rows.specs.Rows.{Row}
-use Rattle.rows.specs.Tables.{fills, count, query, verdict, visits, table}
+use Rattle.rows.specs.Tables.{byteAt, filled, fills, filling, count, query, verdict, visits, table}
 use Rattle.rows.proofs.systems.Systems.{Each, queries, total, final, Solvable}
 use Rattle.rows.proofs.systems.Needs.{solution, needed}
+use Rattle.rows.proofs.tables.Counting.{rewritten-length}
 use Rattle.rows.proofs.tables.Extension.{Extends, extension-value, extension-need}
-use Rattle.rows.proofs.tables.Filling.{fill, fill-extends, fill-count, fill-fill, Whole}
+use Rattle.rows.proofs.tables.Filling.{fill, fill-extends, fill-filled, fill-count, fill-fill, Whole}
 use Rattle.rows.proofs.solver.Walks.{fills-nil, fill-none, whole-nil, whole-append, need-whole}
+
+-- the table of a query has as many bytes as before
+pub query-length : {C : Type 0} (position : C → ℕ) (size : ℕ) (cellAt : ℕ → C) (rows : C → Row C) (fuel : ℕ) (t : List ℕ) (c : C) → length (table (query position size cellAt rows fuel t c)) ≡ length t
+unfolding query filling
+query-length position size cellAt rows fuel t c = rewritten-length size _ t
 
 module _ {C : Type 0} {position : C → ℕ} {rows : C → Row C} {size : ℕ} {cellAt : ℕ → C} {Valid : C → Type 0} {rank : C → ℕ} {F : ℕ} (s : Solvable position rows size cellAt Valid rank F) where
   -- the cells needed for a list of cells, by table t
@@ -24,6 +30,12 @@ module _ {C : Type 0} {position : C → ℕ} {rows : C → Row C} {size : ℕ} {
   needs-whole t (c ∷ cs) e = whole-append s t (needed s t c) (needs t cs) (need-whole s t c (e .0)) (needs-whole t cs (e .1))
 
   module _ (t : List ℕ) (fits : size ≤ length t) where
+    -- the table of a query has as many more filled cells as there were visits
+    pub query-filled : (c : C)
+        → count size (λ i. filled (byteAt t i)) + visits (query position size cellAt rows F t c) ≡ count size (λ i. filled (byteAt (table (query position size cellAt rows F t c)) i))
+    unfolding query
+    query-filled c = fill-filled s t (needed s t c) fits
+
     -- a query after the cells of l were filled
     module _ (l : List C) (w : Whole s t l) (c : C) (vc : Valid c) where
       later : Extends s t (fill s t l)

@@ -16,7 +16,7 @@ abbrev pub oneIf : Bool → ℕ
 oneIf true = 1
 oneIf false = 0
 
-count-zero : (p : ℕ → Bool) → count 0 p ≡ 0
+pub count-zero : (p : ℕ → Bool) → count 0 p ≡ 0
 unfolding count
 count-zero p = refl
 
@@ -35,6 +35,16 @@ count-sum (suc n) p q r h =
     let here : oneIf (p n) + oneIf (q n) ≡ oneIf (r n) = h n (omega arith) in
     let rest : count n p + count n q ≡ count n r = count-sum n p q r (λ i l. h i (omega arith)) in
     omega (arith, count-suc n p, count-suc n q, count-suc n r)
+
+-- the first a positions, and b more
+pub count-append : (a b : ℕ) (p : ℕ → Bool) → count (a + b) p ≡ count a p + count b (λ i. p (a + i))
+count-append a zero p =
+    let same : a + zero ≡ a = omega arith in
+    ap (λ (k : ℕ). count k p) same ∙ omega (arith, count-zero (λ i. p (a + i)))
+count-append a (suc b) p =
+    let next : a + suc b ≡ suc (a + b) = omega arith in
+    let last : count (a + suc b) p ≡ oneIf (p (a + b)) + count (a + b) p = ap (λ (k : ℕ). count k p) next ∙ count-suc (a + b) p in
+    omega (arith, last, count-append a b p, count-suc b (λ i. p (a + i)))
 
 pub count-cong : (n : ℕ) (p q : ℕ → Bool) → ((i : ℕ) → i < n → p i ≡ q i) → count n p ≡ count n q
 count-cong zero p q h = count-zero p ∙ sym (count-zero q)

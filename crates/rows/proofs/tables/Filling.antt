@@ -8,11 +8,11 @@ use native.Mathlib.Omega.{arith}
 use lib.Dec.{eqb, ltb}
 use lib.ListN.{length}
 use lib.Seq.{ext-getD}
-use borrow.Author.Tests.{ltb-true, ltb-false}
+use borrow.Author.Tests.{eqb-true, ltb-true, ltb-false}
 use Rattle.rows.specs.Rows.{Row}
-use Rattle.rows.specs.Tables.{byteAt, empty, byteOf, among, fills, filling, count}
+use Rattle.rows.specs.Tables.{byteAt, empty, filled, byteOf, among, fills, filling, count}
 use Rattle.rows.proofs.systems.Systems.{Each, Solvable}
-use Rattle.rows.proofs.systems.Changed.{empty-byte}
+use Rattle.rows.proofs.systems.Changed.{empty-byte, filled-byte}
 use Rattle.rows.proofs.tables.Among.{among-append, among-find, among-other}
 use Rattle.rows.proofs.tables.Counting.{oneIf, count-sum, rewritten-length, rewritten-below, rewritten-above}
 use Rattle.rows.proofs.systems.Needs.{Closed, solution, needed}
@@ -63,6 +63,16 @@ module _ {C : Type 0} {position : C → ℕ} {rows : C → Row C} {size : ℕ} {
       go : (b : Bool) → ltb i size ≡ b → byteAt (fill t l) i ≡ byteAt t i
       go true q = let h : i < size = ltb-true i size q in rewritten-below size _ t i h (omega arith) ∙ rw e
       go false q = fill-above t l i (ltb-false i size q)
+
+  -- as many cells more are filled as the list fills
+  pub fill-filled : (t : List ℕ) (l : List C) → size ≤ length t
+      → count size (λ i. filled (byteAt t i)) + count size (fills position t l) ≡ count size (λ i. filled (byteAt (fill t l) i))
+  fill-filled t l fits = count-sum size _ (fills position t l) _ (λ i h. go i h (fills position t l i) refl)
+    where
+      go : (i : ℕ) → i < size → (b : Bool) → fills position t l i ≡ b → oneIf (filled (byteAt t i)) + oneIf (fills position t l i) ≡ oneIf (filled (byteAt (fill t l) i))
+      go i h true e =
+          rw (eqb-true (byteAt t i) 0 (fills-true position t l i e .0), e, fill-new t l fits i h e, filled-byte (solution s t (cellAt i)))
+      go i h false e = rw (e, fill-old t l fits i e) (omega arith)
 
   -- lists that fill a position alike
   pub fill-same : (t : List ℕ) (l m : List C) → size ≤ length t → (i : ℕ) → fills position t l i ≡ fills position t m i → byteAt (fill t l) i ≡ byteAt (fill t m) i

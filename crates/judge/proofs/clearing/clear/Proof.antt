@@ -6,6 +6,7 @@ use mathlib.Core.List.{_++_}
 use Prim.Native.Nat.{ℕ}
 use lib.ListN.{drop, replicate}
 use denote.Ref.{now}
+use Rattle.judge.specs.Cells.{tableBytesFor}
 use Rattle.judge.proofs.steps.ClearSteps.{clears-refused, clears-short, clears-done}
 use Rattle.judge.proofs.clearing.clear.Statement.{statement}
 use Rattle.judge.proofs.clearing.clear.Tie as tie
@@ -30,7 +31,7 @@ returns c = let told = c .before .before .before in
     let checked = told .before .before in
     let a = checked .before .before .before .args in
     clears-short (now (a .sheet)) (now (a .table)) (sym (checked .check .ensures .0) ∙ told .enum-told .given .1)
-    (omega (arith, c .before .table-bytes-for .ensures, c .before .before .cell-bytes .ensures))
+    (omega (arith, c .before .table-bytes-for .ensures, c .before .before .cell-bytes .ensures .0))
 
 zero-requires : tie.Need-zero-requires
 zero-requires c κs = search needs
@@ -46,7 +47,7 @@ returns-3 c = let sized = c .before .before .before .before .before in
     let told = sized .before .before in
     let checked = told .before .before in
     let a = checked .before .before .before .args in
-    let size = sized .table-bytes-for .ensures ∙ sized .before .cell-bytes .ensures in
+    let size = sized .table-bytes-for .ensures ∙ ap tableBytesFor (sized .before .cell-bytes .ensures .0) in
     clears-done (now (a .sheet)) (now (a .table)) (sym (checked .check .ensures .0) ∙ told .enum-told .given .1) (omega (arith, size)) _
     (c .before .before .zero .ensures ∙ ap (λ (k : ℕ). replicate k 0 ++ drop k (now (a .table))) size)
 

@@ -34,7 +34,7 @@ product-requires : tie.Need-product-requires
 product-requires c κs = search needs
 
 returns : tie.Need-returns
-returns c = rw (c .product .ensures, c .before .before .before .before .before .wide .ensures .0, c .before .before .before .wide2 .ensures .0, c .before .wide3 .ensures .0, c .before .before .before .before .before .before .state-count .ensures, c .before .before .before .before .node-count .ensures, c .before .before .binder-count .ensures, c .before .before .before .before .before .before .before .before .rule-body .ensures, c .before .before .before .before .before .before .before .plan-body .ensures)
+returns c = (rw (c .product .ensures .0, c .before .before .before .before .before .wide .ensures .0, c .before .before .before .wide2 .ensures .0, c .before .wide3 .ensures .0, c .before .before .before .before .before .before .state-count .ensures, c .before .before .before .before .node-count .ensures, c .before .before .binder-count .ensures, c .before .before .before .before .before .before .before .before .rule-body .ensures, c .before .before .before .before .before .before .before .plan-body .ensures), c .product .ensures .1)
 
 pub cell-bytes-spec : {M : Type 1} → statement M
 cell-bytes-spec =

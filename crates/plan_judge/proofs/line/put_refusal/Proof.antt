@@ -4,27 +4,14 @@ use native.Mathlib.Omega.{arith}
 use mathlib.Core.Path.{_≡_}
 use mathlib.Core.List.{_++_}
 use denote.Ref.{now}
-use Rattle.judge.specs.declared.Queried.the-variants.{Refused}
 use Rattle.text.specs.Decimal.{decimalOf}
 use Rattle.text.specs.Placing.{placeAfter}
 use Rattle.text.specs.Words.{space, lineFeed, refused}
 use Rattle.text.proofs.Placing.{placed-one, placed-next, placed-at-start}
-use Rattle.plan_judge.specs.Line.{lineOf}
-use Rattle.plan_judge.proofs.Lines.{line-length}
+use Rattle.plan_judge.specs.Line.{refusalLine}
+use Rattle.plan_judge.proofs.Lines.{refusal-length}
 use Rattle.plan_judge.proofs.line.put_refusal.Statement.{statement}
 use Rattle.plan_judge.proofs.line.put_refusal.Tie as tie
-
-number-requires : tie.Need-number-requires
-number-requires c κs = search needs
-
-cast-number : tie.Need-cast-number
-cast-number c = search needs
-
-place-requires : tie.Need-place-requires
-place-requires c κs = search needs
-
-cast-place : tie.Need-cast-place
-cast-place c = search needs
 
 slice-aggregate-put : tie.Need-slice-aggregate-put
 slice-aggregate-put c = search needs
@@ -54,32 +41,21 @@ same-length : tie.Need-same-length
 same-length c = search needs
 
 returns : tie.Need-returns
-unfolding lineOf
-returns c =
-    let end = c .before .before in
-    let place = end .before .before .before .before .before in
-    let gap = place .before .before .before .before in
-    let number = gap .before .before .before .before .before in
-    let word = number .before .before .before .before in
-    let asked = word .before .before .before in
-    let start = asked .before .before .before in
-    let after : word .put .result ≡ placeAfter (refused ++ space) 0 (now (start .args .out)) = word .put .ensures .0 in
-    let first = placed-one (after, word .put .ensures .1) in
-    let second = placed-next (decimalOf (asked .before .number .result)) first (number .put-decimal .ensures) in
-    let third = placed-next space second (gap .put2 .ensures) in
-    let fourth = placed-next (decimalOf (asked .place .result)) third (place .put-decimal2 .ensures) in
-    let line = placed-next lineFeed fourth (end .put3 .ensures) in
-    let whole = rw (asked .before .number .ensures, asked .place .ensures) at line in
-    placed-at-start whole (omega (arith, line-length (Refused (start .args .x)), start .pre))
+unfolding refusalLine
+returns c = let start = c .before .before .before .before .before .before .before .before .before .before .before .before .before .before .before .before .before .before .before .before .before .before .before .before in
+    let a = start .args in
+    let after : c .before .before .before .before .before .before .before .before .before .before .before .before .before .before .before .before .before .before .before .before .put .result ≡ placeAfter (refused ++ space) 0 (now (a .out)) = c .before .before .before .before .before .before .before .before .before .before .before .before .before .before .before .before .before .before .before .before .put .ensures .0 in
+    let first = placed-one (after, c .before .before .before .before .before .before .before .before .before .before .before .before .before .before .before .before .before .before .before .before .put .ensures .1) in
+    let second = placed-next (decimalOf (a .number)) first (c .before .before .before .before .before .before .before .before .before .before .before .before .before .before .before .before .put-decimal .ensures) in
+    let third = placed-next space second (c .before .before .before .before .before .before .before .before .before .before .before .put2 .ensures) in
+    let fourth = placed-next (decimalOf (a .place)) third (c .before .before .before .before .before .before .before .put-decimal2 .ensures) in
+    let line = placed-next lineFeed fourth (c .before .before .put3 .ensures) in
+    placed-at-start line (omega (arith, refusal-length (a .number) (a .place), start .pre))
 
 pub put-refusal-spec : {M : Type 1} → statement M
 put-refusal-spec =
     tie.close
     (tie.spec
-    number-requires
-    cast-number
-    place-requires
-    cast-place
     slice-aggregate-put
     put-requires
     put-decimal-requires

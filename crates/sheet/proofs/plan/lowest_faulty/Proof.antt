@@ -39,7 +39,7 @@ step-requires c κs = record {
 }
 
 returns : tie.Need-returns Inv-loop μ-loop
-returns c = (seek-here (c .before .before .before .loop .inv .1) (omega arith) (stopped _ _ _ (c .before .step .ensures) (c .if1 .taken)), omega arith)
+returns c = (seek-here (c .before .before .before .loop .inv .1) (omega arith) (stopped _ _ _ _ (c .before .step .ensures) (c .if1 .taken)), omega arith)
 
 add-i : tie.Need-add-i Inv-loop μ-loop
 add-i c = omega arith
@@ -50,7 +50,7 @@ loop-less c = omega arith
 loop-again : tie.Need-loop-again Inv-loop μ-loop
 loop-again c = let step = c .before .step .ensures in
     let fine = c .if1 .left in
-    (next-floor _ _ _ step fine, seek-next (c .before .before .before .loop .inv .1) (omega arith) (passed _ _ _ step fine))
+    (next-floor _ _ _ _ step fine, seek-next (c .before .before .before .loop .inv .1) (omega arith) (passed _ _ _ _ step fine))
 
 returns-2 : tie.Need-returns-2 Inv-loop μ-loop
 returns-2 c = (seek-end (c .before .loop .inv .1) (omega arith), omega arith)
