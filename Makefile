@@ -2,10 +2,12 @@
 
 DRIVER := target/bin/trials
 PROGRAM := target/bin/plan_judge
+REPORTER := target/bin/counter_report
 STORED := target/stored
 DIFFERENTIAL := cd tests/differential && cargo run --release --offline --quiet --
 
-.PHONY: gate check examples trials store runs lines long count differential memory benchmark help
+.PHONY: gate check examples reports trials store runs lines long count differential memory \
+	benchmark help
 
 gate: ## prove all from nothing, try the must-fail edits, run the programs (rt ci)
 	.ci/run
@@ -16,6 +18,10 @@ check: ## prove what changed since the last check, and run the programs that did
 examples: ## judge the sheets of examples/ and others, and compare with what is right
 	rt check plan_judge
 	python3 tests/sheets.py check examples $(PROGRAM)
+
+reports: ## print reports on about a thousand inputs, and compare with what is right
+	rt check counter_report
+	python3 tests/counter_report.py examples $(REPORTER)
 
 trials: ## say whether the stored trials are what tests/cases.py makes
 	mkdir -p $(STORED)

@@ -1,6 +1,6 @@
 #!/usr/bin/env python3
 """The requests of the trial driver (docs/TRIALS.md) and what they must give, computed from
-docs/FORMAT.md, docs/PATTERNS.md and docs/LINES.md and not by the crates.
+docs/FORMAT.md, docs/PATTERNS.md, docs/LINES.md and docs/REPORT.md and not by the crates.
 
     cases.py store DIR             DIR/stdin and DIR/stdout: the vectors of tests/vectors, then the
                                    cases of tests/inputs
@@ -11,7 +11,7 @@ docs/FORMAT.md, docs/PATTERNS.md and docs/LINES.md and not by the crates.
     cases.py lines COUNT           so many random lines: the last entry of the body that each
                                    becomes is met by the actions that the line says
 
-A last word NUMBERS, as 12456, to `store` and `large` keeps these requests alone.
+A last word NUMBERS, as 1,2,10, to `store` and `large` keeps these requests alone.
 """
 import random
 import sys
@@ -111,8 +111,8 @@ def main(args):
     if args[:1] == ['lines'] and len(args) == 2:
         return lines(int(args[1]))
     numbers = b''
-    if len(args) > 2 and args[-1].isdigit():
-        numbers = bytes(map(int, args.pop()))
+    if len(args) > 2 and args[-1].replace(',', '').isdigit():
+        numbers = bytes(map(int, args.pop().split(',')))
     if args[:1] == ['store'] and len(args) == 2:
         put(args[1], [*vectors(), *answered(b''.join(stored()))], ENDING, numbers)
         return 0

@@ -1,7 +1,8 @@
 #!/usr/bin/env python3
-"""The example sheets, each with a page that explains it.
+"""The example sheets and the example report, each with a page that explains it.
 
-    sheets.py write DIR            writes DIR/NAME.sheet and DIR/NAME.txt for each
+    sheets.py write DIR            writes DIR/NAME.sheet, or DIR/NAME.report, and DIR/NAME.txt for
+                                   each
     sheets.py check DIR PROGRAM    runs PROGRAM on each sheet of DIR and compares with the last line
                                    of its page; then on sheets at the limits and on refused ones,
                                    and compares with what docs/FORMAT.md says
@@ -12,11 +13,11 @@ import sys
 import textwrap
 from pathlib import Path
 
-from inputs.examples import CUT, KEY, LOOP_AHEAD, SPARE, WORN_KEPT
+from inputs.examples import COUNTER, CUT, KEY, LOOP_AHEAD, SPARE, WORN_KEPT
 from inputs.parts import (
     GREATEST_X, K, K8, K_ACTIONS, K_PLAN, K_RULE, LEAST, LEAST_LOOP, LEAST_X, LONG, deepest, plan,
     refusals)
-from oracle.program import line_of
+from oracle.program import line_of, lines_of
 from oracle.sheet import sheet_of, triples, word
 
 KINDS = ('F', 'T', 'or', 'and', 'some', 'every', 'variable', 'least', 'greatest')
@@ -54,18 +55,35 @@ def byte_rows(example):
         yield n, '%d: %s' % (i, node_text(n))
 
 
+def filled(text):
+    return textwrap.wrap(text, 100, break_long_words=False, break_on_hyphens=False)
+
+
+def shown(rows):
+    return ['  %-18s %s' % (','.join(map(str, b)), text) for b, text in rows]
+
+
 def page(example):
     s = sheet_of(*example['bodies'])
-
-    def filled(text):
-        return textwrap.wrap(text, 100, break_long_words=False, break_on_hyphens=False)
-
     out = [*filled(example['title']), '', 'Plan', *filled(example['plan']), '',
-           'Rule', *example['formula'], *filled(example['rule']), '', 'The %d bytes' % len(s)]
-    out += ['  %-18s %s' % (','.join(map(str, b)), text) for b, text in byte_rows(example)]
+           'Rule', *example['formula'], *filled(example['rule']), '', 'The %d bytes' % len(s),
+           *shown(byte_rows(example))]
     if 'also' in example:
         out += ['', *filled(example['also'])]
-    return '\n'.join([*out, '', 'The program prints', line_of(s), ''])
+    return '\n'.join([*out, '', 'The program plan_judge prints', line_of(s), ''])
+
+
+def report_input(example):
+    return bytes([len(example['states']), *example['states']]) + example['sheet']
+
+
+def report_page(example):
+    states, s = example['states'], example['sheet']
+    given = report_input(example)
+    rows = zip(([len(states)], states, [*s[:4], '...']), example['rows'])
+    return '\n'.join([*filled(example['title']), '', 'The %d bytes' % len(given), *shown(rows), '',
+                      *filled(example['also']), '', 'The program counter_report prints',
+                      lines_of(given), ''])
 
 
 def further():
@@ -115,6 +133,8 @@ def main(args):
             sheet = sheet_of(*example['bodies'])
             Path(args[1], example['name'] + '.sheet').write_bytes(sheet)
             Path(args[1], example['name'] + '.txt').write_text(page(example))
+        Path(args[1], COUNTER['name'] + '.report').write_bytes(report_input(COUNTER))
+        Path(args[1], COUNTER['name'] + '.txt').write_text(report_page(COUNTER))
         return 0
     if args[:1] == ['check'] and len(args) == 3:
         return check(*args[1:])

@@ -4,7 +4,8 @@ from oracle.lines import line_body
 from oracle.patterns import translate
 from oracle.protocol import (
     guard_request, line_request, list_request, pattern_request, query_request, read_request,
-    reference_request, write_request)
+    reference_request, report_request, write_request)
+from oracle.reports import ROOM
 from oracle.rows import Sheet
 from oracle.sheet import Refused, accepted, sheet_of
 
@@ -236,3 +237,24 @@ def random_typing(rng, operands=(1, 2, 3, 4, 5, 8, 12, 16)):
         size = rng.randrange(8)
     yield line_request(actions, line, max(0, size + rng.choice((0, 0, 0, 1, 5, -1, -20))),
                        rng.randrange(256))
+
+
+def random_queries(rng, most=(3, 8, 16)):
+    """a sheet, now and then damaged, states for a report, and the length of its table"""
+    s = random_sheet(rng, most)
+    try:
+        sheet = Sheet(s)
+        below, size = sheet.states, sheet.table_size()
+    except Refused:
+        below, size = 5, 60
+    count = rng.choice((0, 1, 2, 3, 4, 6, 9, 20, 64, 65))
+    states = [rng.choice((rng.randrange(below), rng.randrange(below), rng.randrange(below),
+                          below, rng.randrange(256))) for _ in range(count)]
+    return damaged(rng, s) if rng.random() < 0.1 else s, states, size
+
+
+def random_report(rng, most=(3, 8, 16)):
+    s, states, size = random_queries(rng, most)
+    size += rng.choice((0, 0, 0, 0, 0, 0, 0, 1, 9, -1))
+    room = rng.choice((ROOM,) * 9 + (ROOM + 1, ROOM + 30, ROOM - 1, rng.randrange(ROOM)))
+    yield report_request(s, states, size, rng.randrange(256), room, rng.randrange(256))

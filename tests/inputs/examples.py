@@ -1,5 +1,5 @@
-"""The example sheets, with the words that their pages say of them."""
-from inputs.parts import F, K_ACTIONS, K_PLAN, K_RULE, T, plan, rule, table
+"""The example sheets and the example report, with the words that their pages say of them."""
+from inputs.parts import F, K, K_ACTIONS, K_PLAN, K_RULE, T, plan, rule, table
 from oracle.program import line_of
 from oracle.sheet import sheet_of
 
@@ -63,8 +63,21 @@ SPARE = {
 WORN_KEPT = sheet_of(*cutting(7, [t for t in CUT_TRANSITIONS if t != (3, 5, 6)]))
 LOOP_AHEAD = sheet_of(*cutting(9, [*SPARE_TRANSITIONS, (5, 3, 8)]))
 
-CUT['also'] = ('Without the transition 3,5,6 the worn blank stays in the clamp for good, and the '
-               'program prints `%s`.' % line_of(WORN_KEPT))
-SPARE['also'] = ('The loop can\'t be reached from state 0, so the program judges as it does for '
-                 'cut.sheet. With the transition 5,3,8, a deburred key cut anew, it can, and the '
-                 'program prints `%s`.' % line_of(LOOP_AHEAD))
+CUT['also'] = ('Without the transition 3,5,6 the worn blank stays in the clamp for good, and '
+               'plan_judge prints `%s`.' % line_of(WORN_KEPT))
+SPARE['also'] = ('The loop can\'t be reached from state 0, so plan_judge judges as it does for '
+                 'cut.sheet. With the transition 5,3,8, a deburred key cut anew, it can, and '
+                 'plan_judge prints `%s`.' % line_of(LOOP_AHEAD))
+
+COUNTER = {
+    'name': 'counter',
+    'title': 'What the counter terminal sends for a report: K, the sheet of key.txt, at states 0, '
+             '1, 2 and 3.',
+    'states': [0, 1, 2, 3],
+    'sheet': K,
+    'rows': ['the number of states', 'the states, in the order in which they are asked for',
+             'the sheet: the %d bytes of key.sheet' % len(K)],
+    'also': 'K\'s rule holds at states 0 and 1 and does not hold at state 2; there is no state 3. '
+            'The query of state 0 decides 17 cells of the table. All that state 1 needs is among '
+            'them, so its query decides none. That of state 2 decides 9 more: 26 in all.',
+}

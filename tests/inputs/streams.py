@@ -3,7 +3,7 @@ import random
 
 from inputs.bodies import reading_and_writing
 from inputs.chance import (
-    random_judging, random_list, random_reading, random_translation, random_typing)
+    random_judging, random_list, random_reading, random_report, random_translation, random_typing)
 from inputs.counts import counts_to_try
 from inputs.judging import judgings
 from inputs.line_limits import longest_lines
@@ -15,11 +15,13 @@ from inputs.parts import (
     rule)
 from inputs.pattern_page import patterns_to_try
 from inputs.patterns import judged_translations, patterns
+from inputs.reports import reports, reports_to_try
 from inputs.rules import children_to_try
 from inputs.to_try import to_try
 from oracle.protocol import (
     answers, guard_request, line_request, list_request, pattern_request, query_request,
-    read_request, reference_request, write_request)
+    read_request, reference_request, report_request, write_request)
+from oracle.reports import ROOM
 from oracle.sheet import sheet_of, triples
 
 
@@ -38,6 +40,8 @@ def stored():
     yield from patterns()
     yield from expected(*lines_to_try(), *judged_lines(), *read_lines())
     yield from lines()
+    yield from expected(*reports_to_try())
+    yield from reports()
 
 
 # an unknown request ends the run: what follows it gives nothing
@@ -97,3 +101,12 @@ def large():
     yield line_request(9, b'not 3 and 4 or 5', 65535, 207)
     for _ in range(4000):
         yield from random_typing(rng, (1, 2, 3, 5, 9, 13, 16, 17, 40))
+    yield report_request(full, full, 65535, 208, 65535, 209)
+    yield report_request(K, full, 65535, 210, 65535, 211)
+    yield report_request(K, bytes(65), 65535, 212, 65535, 213)
+    yield report_request(K, [k % 4 for k in range(64)], 65535, 214, 65535, 215)
+    for s in (deepest(), sheet_of(*LONG)):
+        yield report_request(s, range(127, 63, -1), 57348, 216, ROOM, 217)
+        yield report_request(s, range(2, 130, 2), 65535, 218, ROOM - 1, 219)
+    for _ in range(1500):
+        yield from random_report(rng, (3, 8, 16, 40, 64))

@@ -1,6 +1,7 @@
 """The trial driver's protocol (docs/TRIALS.md): requests as bytes, and the lines they give."""
 from oracle.lines import line_body
 from oracle.patterns import translate
+from oracle.reports import report
 from oracle.rows import clear, query
 from oracle.sheet import Refused, children, read_sheet, two, word, write_sheet
 from oracle.table1 import guarded, reference
@@ -44,6 +45,11 @@ def children_request(kind):
 
 def line_request(actions, line, size, fill):
     return bytes([9, actions]) + blob_of(line) + two(size) + bytes([fill])
+
+
+def report_request(s, states, size, fill, room, other):
+    return (b'\x0a' + blob_of(s) + blob_of(states) + two(size) + bytes([fill]) + two(room)
+            + bytes([other]))
 
 
 def yes(b):
@@ -155,8 +161,15 @@ def answer_line(stream):
     return text + 'out %s\n' % out.hex()
 
 
+def answer_report(stream):
+    sheet, states, tab, out = stream.blob(), stream.blob(), stream.buffer(), stream.buffer()
+    text = reported('report', lambda: written(report(sheet, states, tab, len(out)), out), 0)
+    return text + 'table %s\nout %s\n' % (tab.hex(), out.hex())
+
+
 ANSWERS = {1: answer_read, 2: answer_guard, 3: answer_reference, 4: answer_list, 5: answer_query,
-           6: answer_write, 7: answer_pattern, 8: answer_children, 9: answer_line}
+           6: answer_write, 7: answer_pattern, 8: answer_children, 9: answer_line,
+           10: answer_report}
 
 
 def answered(given):

@@ -1,3 +1,4 @@
+pub mod LargestTable
 pub mod OneSolution
 pub mod NeededCells
 pub mod QueryCorrect

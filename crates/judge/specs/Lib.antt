@@ -1,5 +1,6 @@
 -- document 01, "Rows"
 pub mod Cells
+pub mod LargestTable
 -- document 02 (f)
 pub mod StoredCount
 -- "Guard check, clearing, query"

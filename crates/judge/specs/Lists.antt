@@ -2,6 +2,7 @@
 use Prim.Native.Nat.{ℕ, _+_}
 use mathlib.Core.Path.{_≡_}
 use mathlib.Core.List.{List, [], _∷_}
+use mathlib.Core.Logic.{_↔_}
 use lib.Dec.{eqb}
 use Rattle.sheet.specs.Bytes.{pick}
 use Rattle.judge.specs.Clearing.{clearReportOf}
@@ -30,6 +31,12 @@ pub data Calls (s : List ℕ) : List ℕ → List ℕ → List QueryReport → L
   call :
       {t u v states : List ℕ} {state : ℕ} {answers : List QueryReport} (r : Queried)
       → Queries s state t r u → Calls s u states answers v → Calls s t (state ∷ states) (reportedQuery r ∷ answers) v
+
+-- such calls report and leave what is defined, and calls that do so there are (`calls-exactly` of proofs/lists/Called.antt)
+abbrev pub CallsExactly : Type 0
+CallsExactly =
+    (s t states : List ℕ) (answers : List QueryReport) (left : List ℕ)
+    → Calls s t states answers left ↔ ((answers ≡ reports s t states) × (left ≡ tableAfter s t states))
 
 -- what holds of each query of a list and its report
 abbrev pub Reported : (ℕ → QueryReport → Type 0) → List ℕ → List QueryReport → Type 0

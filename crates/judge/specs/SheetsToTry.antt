@@ -6,6 +6,8 @@ use mathlib.Core.List.{List, [], _∷_}
 use mathlib.Core.Logic.{_↔_}
 use lib.ListN.{length}
 use Rattle.sheet.specs.Writing.{sheetOf}
+use Rattle.sheet.specs.Reading.{sheetCheck}
+use Rattle.sheet.specs.declared.Check.the-variants.{Passed}
 use Rattle.calculus.specs.MeetingMask.{bit}
 use Rattle.calculus.specs.GuardCheck.{guardedRule, reportedGuard, Guards}
 use Rattle.calculus.specs.Verdict.{Verdict}
@@ -70,9 +72,11 @@ judged verdict visits = record { number = 0; place = 0; verdict = verdict; visit
 abbrev pub refusedBy : ℕ → QueryReport
 refusedBy number = record { number = number; place = 0; verdict = false; visits = 0 }
 
--- the sheet's table has this many bytes, S × N × (B + 1) and four; on each buffer that is long enough, the calls of `query` for the states,
--- one after the other, after a call of `clear`, report this; and they are what the rows and Table 1 say (specs/Demand3.antt)
+-- the sheet is accepted, and its table has this many bytes, S × N × (B + 1) and four; on each buffer that is long enough, the calls of
+-- `query` for the states, one after the other, after a call of `clear`, report this; and they are what the rows and Table 1 say
+-- (specs/Demand3.antt)
 pub record Asked (s : List ℕ) (size : ℕ) (states : List ℕ) (answers : List QueryReport) : Type 0 where
+  pub accepted : sheetCheck s ≡ Passed
   pub table-size : tableBytes s ≡ size
   pub report :
       (t : List ℕ) → size ≤ length t → (r : Cleared) (u : List ℕ) (reported : List QueryReport) (left : List ℕ)

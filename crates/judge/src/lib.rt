@@ -17,7 +17,16 @@ ghost use Rattle.judge.specs.Querying.{reportedQuery};
 ghost use Rattle.judge.specs.Counting.{reportedCount};
 
 // How many bytes of a table hold its count, after the cells.
-pub const COUNT_BYTES: usize = 4;
+pub(crate) const COUNT_BYTES: usize = 4;
+
+// The limits of a sheet, and the table of one that reaches them: the cells and the count.
+const MOST_STATES: usize = 128;
+
+const MOST_NODES: usize = 64;
+
+const MOST_BINDERS: usize = 6;
+
+pub const LARGEST_TABLE: usize = MOST_STATES * MOST_NODES * (MOST_BINDERS + 1) + COUNT_BYTES;
 
 // What clearing answers.
 pub enum Cleared {

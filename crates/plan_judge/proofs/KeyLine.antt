@@ -5,12 +5,7 @@ use mathlib.Core.Bool.{Bool, true}
 use mathlib.Core.List.{List, [], _∷_}
 use native.Mathlib.Omega.{arith}
 use lib.ListN.{length, length-replicate}
-use Rattle.sheet.specs.Bytes.{lowestFrom}
-use Rattle.sheet.specs.Contents.{headingRight, contentsRight, entryIs}
-use Rattle.sheet.specs.Plan.{planSized, transitionFaulty}
-use Rattle.sheet.specs.Actions.{actionsSized, entryFaulty, entryRight}
-use Rattle.sheet.specs.Rule.{ruleSized, extent, bindersBefore, binderNode, endWithin, bindingFaulty}
-use Rattle.sheet.specs.Reading.{planCheck, actionsCheck, ruleCheck, bodiesCheck, sheetCheck}
+use Rattle.sheet.specs.Reading.{sheetCheck}
 use Rattle.sheet.specs.declared.Check.the-variants.{Passed}
 use Rattle.sheet.proofs.acceptance.Numbers.{refused-number}
 use Rattle.calculus.specs.KeySheet.{K}
@@ -38,15 +33,10 @@ first q [] = q
 first q (x ∷ l) = x
 
 accepted : sheetCheck K ≡ Passed
-unfolding sheetCheck headingRight contentsRight entryIs bodiesCheck planCheck planSized lowestFrom transitionFaulty actionsCheck actionsSized entryFaulty entryRight ruleCheck ruleSized extent bindersBefore binderNode endWithin bindingFaulty
-accepted = refl
+accepted = sheets-to-try .p1 .accepted
 
 table-length : length (clearedTable K) ≡ tableBytes K
 table-length = length-replicate {A = ℕ} (tableBytes K) 0
-
-size : tableBytes K ≡ 112
-unfolding bindersBefore
-size = refl
 
 key-answer : programOf K ≡ Judged true 17
 unfolding programOf first
@@ -54,7 +44,7 @@ key-answer =
     judged-answer (queriedOf K 0 (clearedTable K)) true 17
     (ap (λ (t : List ℕ). reportedQuery (queriedOf K 0 t)) (sym (cleared-exact K (clearedTable K) accepted table-length))
     ∙ ap (first (judged true 17))
-    (sheets-to-try .p1 .report (clearedTable K) (omega (arith, table-length, size)) _ _ _ _ (refl, (refl, refl)) (call (queriedOf K 0 (tableCleared K (clearedTable K))) (refl, (refl, refl)) none) .0))
+    (sheets-to-try .p1 .report (clearedTable K) (omega (arith, table-length, sheets-to-try .p1 .table-size)) _ _ _ _ (refl, (refl, refl)) (call (queriedOf K 0 (tableCleared K (clearedTable K))) (refl, (refl, refl)) none) .0))
 
 pub key-line : KeyLine
 unfolding lineOf digitsOf

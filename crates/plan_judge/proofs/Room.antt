@@ -1,38 +1,26 @@
 -- The program's table has room for every sheet.
-use Prim.Native.Nat.{ℕ, _+_, _*_, _≤_}
+use Prim.Native.Nat.{ℕ, _≤_}
 use mathlib.Core.Path.{_≡_, refl, sym, ap, _∙_}
 use mathlib.Core.List.{List}
 use native.Mathlib.Omega.{arith}
-use native.Mathlib.Nat.{mul-le-mul}
 use lib.ListN.{length}
 use borrow.Author.Tests.{le-leb}
-use Rattle.sheet.specs.Contents.{ruleBody}
-use Rattle.sheet.specs.Rule.{binderCount}
 use Rattle.sheet.specs.Reading.{sheetCheck}
 use Rattle.sheet.specs.declared.Refusal.{Refusal}
 use Rattle.sheet.specs.declared.Check.{Check}
 use Rattle.sheet.specs.declared.Check.the-variants.{Passed, Failed}
-use Rattle.sheet.proofs.acceptance.Parts.{bodies-kept}
-use Rattle.judge.specs.Cells.{cellBytes, tableBytes}
+use Rattle.judge.specs.Cells.{tableBytes}
 use Rattle.judge.specs.Clearing.{clearCheck, clearedOf, tableCleared}
+use Rattle.judge.specs.LargestTable.{largestTable}
 use Rattle.judge.specs.Querying.{queriedOf}
 use Rattle.judge.specs.declared.Cleared.the-variants as cleared
 use Rattle.judge.specs.declared.Queried.{Queried}
 use Rattle.judge.specs.declared.Queried.the-variants as queried
 use Rattle.judge.proofs.lists.JustCleared.{cleared-length, cleared-below}
+use Rattle.judge.proofs.statements.LargestTable.{every-table-fits}
 use Rattle.plan_judge.specs.Program.{programOf}
-use Rattle.plan_judge.specs.Buffers.{mostStates, mostNodes, mostBinders, tableLength, answerAfter, clearThenQuery, RoomForEverySheet}
+use Rattle.plan_judge.specs.Buffers.{answerAfter, clearThenQuery, RoomForEverySheet}
 use Rattle.plan_judge.proofs.Answers.{answers-start, program-refuses, program-answers}
-
--- no sheet has a longer table
-short-table : (s : List ℕ) → sheetCheck s ≡ Passed → tableBytes s ≤ tableLength
-short-table s accepted =
-    let k = bodies-kept s accepted in
-    let marks : binderCount (ruleBody s) + 1 ≤ mostBinders + 1 = omega (arith, k .rule-kept .few-binders) in
-    let cells : cellBytes s ≤ mostStates * mostNodes * (mostBinders + 1) =
-    mul-le-mul {n₂ = mostStates * mostNodes} {m₂ = mostBinders + 1}
-    (mul-le-mul {n₂ = mostStates} {m₂ = mostNodes} (k .plan-kept .few-states) (k .rule-kept .few-nodes)) marks in
-    omega arith
 
 refused-alike : (s t : List ℕ) (x : Refusal) → sheetCheck s ≡ Failed x → clearThenQuery s t ≡ queried.Refused x
 unfolding clearedOf clearCheck
@@ -53,11 +41,11 @@ pub room-for-every-sheet : RoomForEverySheet
 room-for-every-sheet s t long = go (sheetCheck s) refl
   where
     go : (c : Check) → sheetCheck s ≡ c → clearThenQuery s t ≡ programOf s
-    go Passed e = queried-alike s t e (omega (arith, short-table s e))
+    go Passed e = queried-alike s t e (omega (arith, every-table-fits s e))
     go (Failed x) e = refused-alike s t x e ∙ sym (program-refuses s x e)
 
 -- the same, of calls that cleared t and left u
-module _ (s t : List ℕ) {u : List ℕ} (left : u ≡ tableCleared s t) (long : tableLength ≤ length t) where
+module _ (s t : List ℕ) {u : List ℕ} (left : u ≡ tableCleared s t) (long : largestTable ≤ length t) where
   pub program-queries : {q : Queried} → clearedOf s t ≡ cleared.Done → q ≡ queriedOf s 0 u → q ≡ programOf s
   program-queries d e = e ∙ ap (queriedOf s 0) left ∙ sym (ap (answerAfter (queriedOf s 0 (tableCleared s t))) d) ∙ room-for-every-sheet s t long
 

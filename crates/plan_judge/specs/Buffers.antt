@@ -1,36 +1,20 @@
 -- The program's buffers: its table and its input, and that each is long enough for every sheet.
-use Prim.Native.Nat.{ℕ, _+_, _*_, _≤_}
+use Prim.Native.Nat.{ℕ, _+_, _≤_}
 use mathlib.Core.Path.{_≡_}
 use mathlib.Core.List.{List}
 use lib.ListN.{length, take}
 use Rattle.sheet.specs.Contents.{longest}
-use Rattle.judge.specs.Cells.{tableBytesFor}
+use Rattle.text.specs.Placing.{Puts}
 use Rattle.judge.specs.Clearing.{clearedOf, tableCleared}
+use Rattle.judge.specs.LargestTable.{largestTable}
 use Rattle.judge.specs.Querying.{queriedOf}
 use Rattle.judge.specs.declared.Cleared.{Cleared}
 use Rattle.judge.specs.declared.Cleared.the-variants as cleared
 use Rattle.judge.specs.declared.Queried.{Queried}
 use Rattle.judge.specs.declared.Queried.the-variants as queried
-use Rattle.plan_judge.specs.Line.{PutsLine}
 use Rattle.plan_judge.specs.Program.{programOf, programLine}
 
 -- ---- the table
-
--- "1 to 128 states"
-abbrev pub mostStates : ℕ
-mostStates = 128
-
--- "Count N (1 byte, 1 to 64)"
-abbrev pub mostNodes : ℕ
-mostNodes = 64
-
--- "B, their number, is at most 6."
-abbrev pub mostBinders : ℕ
-mostBinders = 6
-
--- "S × N × (B + 1)" of the largest sheets, and the count after the cells
-abbrev pub tableLength : ℕ
-tableLength = tableBytesFor (mostStates * mostNodes * (mostBinders + 1))
 
 -- clearing's refusal is the answer, and no query is made
 abbrev pub answerAfter : Queried → Cleared → Queried
@@ -41,9 +25,9 @@ answerAfter q (cleared.Refused r) = queried.Refused r
 abbrev pub clearThenQuery : List ℕ → List ℕ → Queried
 clearThenQuery s t = answerAfter (queriedOf s 0 (tableCleared s t)) (clearedOf s t)
 
--- on every buffer of at least so many bytes, whatever it holds, that is the program's answer
+-- on every buffer that is long enough for every sheet, whatever it holds, that is the program's answer
 abbrev pub RoomForEverySheet : Type 0
-RoomForEverySheet = (s t : List ℕ) → tableLength ≤ length t → clearThenQuery s t ≡ programOf s
+RoomForEverySheet = (s t : List ℕ) → largestTable ≤ length t → clearThenQuery s t ≡ programOf s
 
 -- ---- the input
 
@@ -61,4 +45,4 @@ HoldsStart file buffer n = take n buffer ≡ take (length buffer) file
 
 -- the line put is that of the file, whichever it is, whose start was read into the buffer
 abbrev pub PutsLineOfFile : List ℕ → ℕ → ℕ → List ℕ → List ℕ → Type 0
-PutsLineOfFile buffer n r before after = (file : List ℕ) → HoldsStart file buffer n → PutsLine (programLine file) r before after
+PutsLineOfFile buffer n r before after = (file : List ℕ) → HoldsStart file buffer n → Puts (programLine file) r before after

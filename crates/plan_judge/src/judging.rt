@@ -1,7 +1,7 @@
 // From the bytes that were read to the line.
 use crate::line::put_line;
-use judge::COUNT_BYTES;
 use judge::Cleared;
+use judge::LARGEST_TABLE;
 use judge::Queried;
 use sheet::LONGEST;
 use sheet::State;
@@ -9,27 +9,19 @@ ghost use Prim.Native.Nat.{_≤_};
 ghost use mathlib.Core.Path.{_≡_};
 ghost use lib.ListN.{length};
 ghost use Rattle.io.specs.Counts.{Counts};
-ghost use Rattle.plan_judge.specs.Line.{lineLength, PutsLine};
+ghost use Rattle.text.specs.Placing.{Puts};
+ghost use Rattle.plan_judge.specs.Line.{lineLength};
 ghost use Rattle.plan_judge.specs.Program.{programOf, programLine};
 ghost use Rattle.plan_judge.specs.Buffers.{inputLength, PutsLineOfFile};
 
 // One byte more than the longest sheet, so that a longer input is seen to be too long and is not read to its end.
 pub(crate) const INPUT_LENGTH: usize = LONGEST + 1;
 
-// The limits of a sheet, and the table of one that reaches them: the cells and the count.
-const MOST_STATES: usize = 128;
-
-const MOST_NODES: usize = 64;
-
-const MOST_BINDERS: usize = 6;
-
-const TABLE_LENGTH: usize = MOST_STATES * MOST_NODES * (MOST_BINDERS + 1) + COUNT_BYTES;
-
 // Clears a table and queries state 0; a refusal of either is the answer.
 fn judge_start(sheet: &[u8]) -> Queried
     ensures { λ r. ⌜ r ≡ programOf (now (sheet .entry)) ⌝ }
 {
-    let mut table = [0u8; TABLE_LENGTH];
+    let mut table = [0u8; LARGEST_TABLE];
     let cleared = judge::clearing::clear(sheet, &mut table);
     match cleared {
         Cleared::Done => judge::querying::query(sheet, State(0), &mut table),
@@ -41,7 +33,7 @@ fn judge_start(sheet: &[u8]) -> Queried
 fn judge_line(sheet: &[u8], text: &mut [u8]) -> usize
     requires { ⌜ lineLength ≤ length (now text) ⌝ }
     ensures { λ r. ⌜ Counts r (now (text .exit)) ⌝ }
-    ensures { λ r. ⌜ PutsLine (programLine (now (sheet .entry))) r (now (text .entry)) (now (text .exit)) ⌝ }
+    ensures { λ r. ⌜ Puts (programLine (now (sheet .entry))) r (now (text .entry)) (now (text .exit)) ⌝ }
 {
     let answer = judge_start(sheet);
     put_line(answer, text)

@@ -51,3 +51,17 @@ digits-length (suc k) n =
 
 pub decimal-length : (n : ℕ) → length (decimalOf n) ≤ 20
 decimal-length n = digits-length 20 n
+
+-- a number below a power of ten has at most as many digits as the power
+few-digits : (f k n : ℕ) → n < 10 ^ suc k → length (digitsOf f n) ≤ suc k
+unfolding digitsOf
+few-digits zero k n h = omega arith
+few-digits (suc f) zero n h = rw (digits-one f n (omega arith)) (omega arith)
+few-digits (suc f) (suc k) n h =
+    elim (decLt n 10) [
+      | yes l ↦ rw (digits-one f n l) (omega arith)
+      | no g ↦ rw (digits-more f n (omega arith), length-append) (omega (arith, few-digits f k (n / 10) (tenth k n h)))
+    ]
+
+pub short-decimal : (k n : ℕ) → n < 10 ^ suc k → length (decimalOf n) ≤ suc k
+short-decimal k n h = few-digits 20 k n h

@@ -1,6 +1,6 @@
 -- Texts put into a buffer, one after another.
 use Prim.Native.Nat.{ℕ, _+_, _-_, _≤_, _<_}
-use mathlib.Core.Path.{_≡_, sym, ap, _∙_}
+use mathlib.Core.Path.{_≡_, sym, ap, ap₂, subst, _∙_}
 use mathlib.Core.List.{List, _++_, append-assoc, append-nil}
 use native.Mathlib.Omega.{arith}
 use native.Mathlib.Decide.{decLe}
@@ -8,7 +8,7 @@ use borrow.Author.Tests.{le-leb, lt-leb}
 use lib.ListN.{length, take, drop, length-append, drop-of-length-le}
 use lib.Seq.{take-at, drop-at, drop-drop, length-take-le, take-length, length-paste}
 use borrow.Rule.Slice.PartMut.{midOf, putMid, mid-len, post-is}
-use Rattle.text.specs.Placing.{bufferAfter, placeAfter, startingWith}
+use Rattle.text.specs.Placing.{bufferAfter, placeAfter, startingWith, Puts}
 
 module _ (text : List ℕ) (at : ℕ) (out : List ℕ) where
   module _ (h : at + length text ≤ length out) where
@@ -103,12 +103,49 @@ placed-next {at} {n} {m} {out} {x} {e} {f} y s p = record {
   length-is = ap length (p .1) ∙ (same-length y n e ∙ s .length-is);
 }
 
+-- texts put from a place of a buffer that holds them all
+pub placed-fitting : {at place : ℕ} {out text buffer : List ℕ} → Placed at out text place buffer → at + length text ≤ length out
+    → (place ≡ at + length text) × (buffer ≡ bufferAfter text at out)
+placed-fitting {at} {place} {out} {text} s h = (s .place-is ∙ place-fitting text at out h, s .buffer-is h)
+
+module _ (x out : List ℕ) (h : length x ≤ length out) where
+  -- a text put at the start is a buffer that starts with it
+  starting-with : bufferAfter x 0 out ≡ startingWith x out
+  starting-with = let z : 0 + length x ≡ length x = omega arith in buffer-fitting x 0 out (omega arith) ∙ ap (λ (n : ℕ). x ++ drop n out) z
+
+  pub starting-length : length (startingWith x out) ≡ length out
+  starting-length = sym (ap length starting-with) ∙ same-length x 0 out
+
+-- a text put behind the one that a buffer starts with
+pub starting-append : (x y out : List ℕ) → length (x ++ y) ≤ length out → bufferAfter y (length x) (startingWith x out) ≡ startingWith (x ++ y) out
+starting-append x y out h =
+    let l = length-append x y in
+    let first : length x ≤ length out = omega arith in
+    let at : placeAfter x 0 out ≡ length x = place-fitting x 0 out (omega arith) ∙ omega arith in
+    ap₂ (bufferAfter y) (sym at) (sym (starting-with x out first)) ∙ (buffer-append x y 0 out (omega arith) ∙ starting-with (x ++ y) out h)
+
 -- texts put from the start of a buffer that holds them all
-pub placed-at-start : {place : ℕ} {out text buffer : List ℕ} → Placed 0 out text place buffer → length text ≤ length out
-    → (place ≡ length text) × (buffer ≡ startingWith text out)
+pub placed-at-start : {place : ℕ} {out text buffer : List ℕ} → Placed 0 out text place buffer → length text ≤ length out → Puts text place out buffer
 placed-at-start {place} {out} {text} s h =
     let k : 0 + length text ≤ length out = omega arith in
-    let z : 0 + length text ≡ length text = omega arith in (
-      s .place-is ∙ (place-fitting text 0 out k ∙ z),
-      s .buffer-is k ∙ (buffer-fitting text 0 out k ∙ ap (λ (n : ℕ). text ++ drop n out) z),
-    )
+    let z : 0 + length text ≡ length text = omega arith in
+    (s .place-is ∙ (place-fitting text 0 out k ∙ z), s .buffer-is k ∙ starting-with text out h)
+
+-- a text put at the start of a buffer that holds it
+pub put-at-start : (text out : List ℕ) {n : ℕ} {buffer : List ℕ} → length text ≤ length out
+    → (n ≡ placeAfter text 0 out) × (buffer ≡ bufferAfter text 0 out) → Puts text n out buffer
+put-at-start text out h p = placed-at-start (placed-one p) h
+
+module _ (text out : List ℕ) {n : ℕ} {buffer : List ℕ} (p : Puts text n out buffer) where
+  -- a text at the start of a buffer ends within it
+  pub puts-within : (n ≤ length buffer) × (n ≡ length (take n buffer))
+  puts-within = let l : n ≤ length buffer = omega (arith, ap length (p .1), length-append text (drop (length text) out)) in (l, sym (length-take-le n buffer l))
+
+  -- and is what the buffer begins with
+  pub puts-taken : take n buffer ≡ text
+  puts-taken = ap (take n) (p .1) ∙ take-at text (drop (length text) out) n (sym (p .0))
+
+-- the first, of a text that is another's equal
+pub puts-counted : {text answered : List ℕ} {n : ℕ} {buffer : List ℕ} (out : List ℕ) → text ≡ answered → Puts text n out buffer
+    → ((n ≤ length buffer) × (n ≡ length (take n buffer))) × Puts answered n out buffer
+puts-counted {text} {answered} {n} {buffer} out e p = (puts-within text out p, subst (λ (x : List ℕ). Puts x n out buffer) e p)

@@ -1,4 +1,5 @@
 pub mod Decimal
 pub mod Words
+pub mod RefusalLine
 pub mod Placing
 pub mod Comparing

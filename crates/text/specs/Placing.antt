@@ -1,5 +1,6 @@
 -- A text put into a buffer at a place, for every text, place and buffer.
 use Prim.Native.Nat.{ℕ, _+_}
+use mathlib.Core.Path.{_≡_}
 use mathlib.Core.Bool.{Bool, cond}
 use mathlib.Core.List.{List, _++_}
 use lib.ListN.{length, take, drop}
@@ -20,3 +21,7 @@ placeAfter text at out = cond (fits text at out) (at + length text) (length out 
 -- a buffer with the text at its start: the bytes behind it are unchanged
 abbrev pub startingWith : List ℕ → List ℕ → List ℕ
 startingWith text out = text ++ drop (length text) out
+
+-- a text put at the start of a buffer: n is its length, and the bytes behind it are unchanged
+abbrev pub Puts : List ℕ → ℕ → List ℕ → List ℕ → Type 0
+Puts text n before after = (n ≡ length text) × (after ≡ startingWith text before)

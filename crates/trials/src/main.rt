@@ -9,6 +9,7 @@ mod pattern;
 mod query;
 mod read;
 mod refer;
+mod reports;
 mod write;
 
 use input::Buffer;
@@ -16,25 +17,32 @@ use input::Byte;
 
 // Answers one request of the number given; false where the input cuts it short or the number is unknown. The buffers hold what an earlier request left:
 // a request lends the calls only bytes that it has read or filled.
-fn answer(number: u8, first: &mut Buffer, second: &mut Buffer, third: &mut Buffer) -> bool {
+fn answer(
+    number: u8,
+    first: &mut Buffer,
+    second: &mut Buffer,
+    third: &mut Buffer,
+    fourth: &mut Buffer,
+) -> bool {
     match number {
         1 => read::answer(first),
         2 => guard::answer(first),
         3 => refer::answer(first),
         4 => list::answer(first, second, third),
         5 => query::answer(first, second),
-        6 => write::answer(first, second, third),
+        6 => write::answer(first, second, third, fourth),
         7 => pattern::answer(first, second, third),
         8 => children::answer(),
         9 => line::answer(first, second),
+        10 => reports::answer(first, second, third, fourth),
         _ => false,
     }
 }
 
-fn next(first: &mut Buffer, second: &mut Buffer, third: &mut Buffer) -> bool {
+fn next(first: &mut Buffer, second: &mut Buffer, third: &mut Buffer, fourth: &mut Buffer) -> bool {
     let number = input::read_byte();
     match number {
-        Byte::Got(n) => answer(n, first, second, third),
+        Byte::Got(n) => answer(n, first, second, third, fourth),
         Byte::Ended => false,
     }
 }
@@ -44,8 +52,9 @@ fn main() {
     let mut first = io::large_buffer();
     let mut second = io::large_buffer();
     let mut third = io::large_buffer();
+    let mut fourth = io::large_buffer();
     let mut turns = u64::MAX;
-    while turns > 0 && next(&mut first, &mut second, &mut third) {
+    while turns > 0 && next(&mut first, &mut second, &mut third, &mut fourth) {
         turns -= 1;
     }
 }

@@ -42,8 +42,12 @@ fn write_to(plan: &[u8], actions: &[u8], rule: &[u8], buf: &mut Buffer, n: u16) 
     write_start(plan, actions, rule, buf, n as usize);
 }
 
-pub(crate) fn answer(plan: &mut Buffer, actions: &mut Buffer, rule: &mut Buffer) -> bool {
-    let mut out = io::large_buffer();
+pub(crate) fn answer(
+    plan: &mut Buffer,
+    actions: &mut Buffer,
+    rule: &mut Buffer,
+    out: &mut Buffer,
+) -> bool {
     let Number::Got(p) = input::read_blob(plan) else {
         return false;
     };
@@ -59,12 +63,12 @@ pub(crate) fn answer(plan: &mut Buffer, actions: &mut Buffer, rule: &mut Buffer)
     let Byte::Got(b) = input::read_byte() else {
         return false;
     };
-    input::fill(&mut out, n, b);
+    input::fill(out, n, b);
     write_to(
         input::prefix(plan, p),
         input::prefix(actions, a),
         input::prefix(rule, r),
-        &mut out,
+        out,
         n,
     );
     true

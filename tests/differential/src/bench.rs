@@ -8,6 +8,7 @@ use crate::oracle;
 use crate::pattern_gen;
 use crate::patterns;
 use crate::protocol::Request;
+use crate::reports::{MOST, ROOM};
 use std::fmt::Write as _;
 use std::path::{Path, PathBuf};
 use std::process::{Command, Stdio};
@@ -121,7 +122,7 @@ const ACTIONS: u8 = 100;
 /// length; the others have about 500 n bytes.
 fn typed(name: &str, n: usize) -> Vec<Vec<u8>> {
     let long = match name {
-        "reading a line" => {
+        LINE => {
             let mut all = Vec::new();
             let mut index = 0;
             while all.len() < 60 {
@@ -135,8 +136,8 @@ fn typed(name: &str, n: usize) -> Vec<Vec<u8>> {
             all.sort_by_key(Vec::len);
             return all[45 - SHEETS / 2..45 + SHEETS / 2].to_vec();
         }
-        "reading many parentheses" => [vec![b'('; 250 * n - 1], b"12".to_vec(), vec![b')'; 250 * n - 1]].concat(),
-        "refusing many nots" => [&b"not ".repeat(125 * n)[..], b"12"].concat(),
+        PARENTHESES => [vec![b'('; 250 * n - 1], b"12".to_vec(), vec![b')'; 250 * n - 1]].concat(),
+        NOTS => [&b"not ".repeat(125 * n)[..], b"12"].concat(),
         _ => vec![b'1'; 500 * n],
     };
     vec![long; SHEETS]
@@ -201,21 +202,34 @@ struct Row {
     clear: bool,
 }
 
-const OPS: [&str; 11] = [
-    "reading",
-    "reference",
-    "first query",
-    "list of all states",
-    "query of an end state",
-    "translating a pattern",
-    "refusing a long pattern",
-    "reading a line",
-    "reading many parentheses",
-    "refusing many nots",
-    "refusing a long number",
+const READING: &str = "reading";
+const REFERENCE: &str = "reference";
+const FIRST_QUERY: &str = "first query";
+const LIST: &str = "list of all states";
+const END_STATE: &str = "query of an end state";
+const REPORT: &str = "report of 64 queries";
+const PATTERN: &str = "translating a pattern";
+const LONG_PATTERN: &str = "refusing a long pattern";
+const LINE: &str = "reading a line";
+const PARENTHESES: &str = "reading many parentheses";
+const NOTS: &str = "refusing many nots";
+const LONG_NUMBER: &str = "refusing a long number";
+
+/// Each with its request.
+const OPS: [(&str, u8); 12] = [
+    (READING, 1),
+    (REFERENCE, 3),
+    (FIRST_QUERY, 4),
+    (LIST, 4),
+    (END_STATE, 4),
+    (REPORT, 10),
+    (PATTERN, 7),
+    (LONG_PATTERN, 7),
+    (LINE, 9),
+    (PARENTHESES, 9),
+    (NOTS, 9),
+    (LONG_NUMBER, 9),
 ];
-/// The request of each.
-const NUMBERS: [u8; 11] = [1, 3, 4, 4, 4, 7, 7, 9, 9, 9, 9];
 
 fn stream(requests: &[Request], times: usize) -> Vec<u8> {
     let mut one = Vec::new();
@@ -227,6 +241,19 @@ fn list(sheets: &[Vec<u8>], states: &[u8]) -> Vec<Request> {
     let make = |s: &Vec<u8>| {
         let len = oracle::read(s).expect("a valid sheet").parts.table_len();
         Request::List { sheet: s.clone(), table_len: len as u16, fill: 7, states: states.to_vec() }
+    };
+    sheets.iter().map(make).collect()
+}
+
+/// As many queries as a report may have, of states all over the plan.
+fn reported(n: usize) -> Vec<u8> {
+    (0..MOST).map(|i| (i * n / MOST) as u8).collect()
+}
+
+fn report(sheets: &[Vec<u8>], states: &[u8]) -> Vec<Request> {
+    let make = |s: &Vec<u8>| {
+        let len = oracle::read(s).expect("a valid sheet").parts.table_len();
+        Request::Report { sheet: s.clone(), states: states.to_vec(), table_len: len as u16, fill: 7, out_len: ROOM as u16, out_fill: 7 }
     };
     sheets.iter().map(make).collect()
 }
@@ -255,7 +282,7 @@ pub fn bench(trials: &str, numbers: &[u8], out: &str) -> i32 {
         p
     };
     // the kinds of request that the driver answers
-    let tried = |k: u8| vec![&[k][..], &[0; 7][..if k < 4 { 2 } else { 7 }]].concat();
+    let tried = |k: u8| [&[k][..], &[0; 10]].concat();
     let has = |k: u8| numbers.contains(&k) && drive(&trials, &tried(k), 20).is_ok_and(|o| !o.0.is_empty());
 
     let empty = store("empty", &[]);
@@ -271,38 +298,42 @@ pub fn bench(trials: &str, numbers: &[u8], out: &str) -> i32 {
 
     let mut rows: Vec<Row> = Vec::new();
     let mut missing = Vec::new();
-    for (op, name) in OPS.iter().enumerate() {
-        if !has(NUMBERS[op]) {
-            missing.push(*name);
+    for (op, &(name, number)) in OPS.iter().enumerate() {
+        if !has(number) {
+            missing.push(name);
             continue;
         }
         for &(n, binders) in &SIZES {
-            if op == 1 && n > 64 {
+            if name == REFERENCE && n > 64 {
                 continue;
             }
-            let (requests, base): (Vec<Request>, Vec<Request>) = match op {
-                0 => (sheets(n, binders, false).into_iter().map(Request::Read).collect(), vec![Request::Read(vec![]); SHEETS]),
-                1 => {
+            let (requests, base): (Vec<Request>, Vec<Request>) = match name {
+                READING => (sheets(n, binders, false).into_iter().map(Request::Read).collect(), vec![Request::Read(vec![]); SHEETS]),
+                REFERENCE => {
                     let s = sheets(n, binders.min(2), true);
                     (s.into_iter().map(Request::Reference).collect(), vec![Request::Reference(vec![]); SHEETS])
                 }
-                5 | 6 => {
-                    let made = translations(n, binders);
-                    let long = [&[0][..], &vec![3; 500 * n - 3], &[0, 0]].concat();
-                    let whole = translating(&made, |b| if op == 5 { b.to_vec() } else { long.clone() });
-                    (whole, translating(&made, |_| vec![]))
-                }
-                7.. => (typing(typed(name, n)), typing(vec![vec![]; SHEETS])),
-                _ => {
+                FIRST_QUERY | LIST | END_STATE => {
                     let s = sheets(n, binders, false);
                     // no transition of these plans leaves the last state
-                    let states: Vec<u8> = match op {
-                        2 => vec![0],
-                        3 => (0..n as u8).collect(),
+                    let states: Vec<u8> = match name {
+                        FIRST_QUERY => vec![0],
+                        LIST => (0..n as u8).collect(),
                         _ => vec![n as u8 - 1],
                     };
                     (list(&s, &states), list(&s, &[]))
                 }
+                REPORT => {
+                    let s = sheets(n, binders, false);
+                    (report(&s, &reported(n)), report(&s, &[]))
+                }
+                PATTERN | LONG_PATTERN => {
+                    let made = translations(n, binders);
+                    let long = [&[0][..], &vec![3; 500 * n - 3], &[0, 0]].concat();
+                    let whole = translating(&made, |b| if name == PATTERN { b.to_vec() } else { long.clone() });
+                    (whole, translating(&made, |_| vec![]))
+                }
+                _ => (typing(typed(name, n)), typing(vec![vec![]; SHEETS])),
             };
             let tag = format!("{}-{n}", name.replace(' ', "-"));
             let input = store(&tag, &stream(&requests, 1));
@@ -437,7 +468,10 @@ fn page(rows: &[Row], missing: &[&str], start: &[f64], start_time: &[f64], each:
         64). Each figure is for one request, the mean over 4 sheets about the upper quarter, by the work
         they make, of 60 made at random. A query's figure is that of the request less that of the same
         request with no query (clearing and writing out the table); those of reading and reference are less
-        that of the same request with a sheet of no bytes. Patterns are translated on 4 sheets with a rule
+        that of the same request with a sheet of no bytes. A report has 64 queries, of states spread evenly
+        over the plan, each asked for several times where n is under 64; its figure is less that of the
+        same request with no state (clearing, the line `total 0`, writing out both buffers). Patterns are
+        translated on 4 sheets with a rule
         of n / 16 nodes; they make n / 2 + 2 nodes, at most 64, and 1 to 6 binders. A long pattern has 500 n
         bytes, an action any number of times, any number of times, and so on, and is refused with 31. The
         figures of patterns are less that of the same request with a pattern of no bytes, for which the
@@ -474,19 +508,19 @@ fn page(rows: &[Row], missing: &[&str], start: &[f64], start_time: &[f64], each:
         let _ = writeln!(
             o,
             "| {} | {} | {} | {} | {} | {} | {} | {:.2} | {:.2} | {} |",
-            OPS[r.op], r.size, grouped(r.instructions[0]), growth(0), grouped(r.instructions[1]), growth(1),
+            OPS[r.op].0, r.size, grouped(r.instructions[0]), growth(0), grouped(r.instructions[1]), growth(1),
             ratio(r.instructions[0], r.instructions[1], true), r.seconds[0] * 1e6, r.seconds[1] * 1e6, ratio(r.seconds[0], r.seconds[1], r.clear)
         );
     }
     o += "\n";
     o += &paragraph(
-        "Each query of a list reads the sheet again and looks at every cell of its table for a byte over 2
+        "Each query of a list or a report reads the sheet again and looks at every cell of its table for a byte over 2
         (refusal 21); the same pass counts the filled cells, with which the stored count is compared (35).
         That is S × N × (B + 1) bytes, 57,344 at the largest size, which both programs take many at a step.
         So a list grows faster than its sheet.",
     );
-    let of = |op: usize, n: usize| rows.iter().find(|r| r.op == op && r.size == n);
-    let beside: Vec<(&Row, &Row)> = SIZES.iter().filter_map(|&(n, _)| Some((of(0, n)?, of(4, n)?))).collect();
+    let of = |name: &str, n: usize| rows.iter().find(|r| OPS[r.op].0 == name && r.size == n);
+    let beside: Vec<(&Row, &Row)> = SIZES.iter().filter_map(|&(n, _)| Some((of(READING, n)?, of(END_STATE, n)?))).collect();
     if !beside.is_empty() {
         o += &paragraph(
             "Beyond reading the sheet, the driver's query looks at the transitions of the states that can be
@@ -511,8 +545,9 @@ fn page(rows: &[Row], missing: &[&str], start: &[f64], start_time: &[f64], each:
 }
 
 fn plot(rows: &[Row]) -> String {
-    const COLOURS: [&str; 11] = [
-        "#0072b2", "#d55e00", "#009e73", "#cc79a7", "#e69f00", "#56b4e9", "#777777", "#332288", "#117733", "#882255", "#999933",
+    const COLOURS: [&str; 12] = [
+        "#0072b2", "#d55e00", "#009e73", "#cc79a7", "#e69f00", "#aa4499", "#56b4e9", "#777777", "#332288", "#117733", "#882255",
+        "#999933",
     ];
     let mut o = String::new();
     o += "<svg xmlns=\"http://www.w3.org/2000/svg\" width=\"960\" height=\"540\" viewBox=\"0 0 960 540\" font-family=\"sans-serif\" font-size=\"13\">\n";
@@ -567,7 +602,7 @@ fn plot(rows: &[Row]) -> String {
     };
     // the legend, in as many lines as it takes
     let (mut at, mut down) = (70.0, 440.0);
-    for op in 0..OPS.len() {
+    for (op, (name, _)) in OPS.iter().enumerate() {
         let mine: Vec<&&Row> = good.iter().filter(|r| r.op == op).collect();
         if mine.is_empty() {
             continue;
@@ -578,12 +613,12 @@ fn plot(rows: &[Row]) -> String {
         }
         let points: Vec<(f64, f64)> = mine.iter().map(|r| (x(560.0, r.size), z(r.instructions[0] / r.instructions[1]))).collect();
         o += &line(&points, COLOURS[op], "");
-        let wide = 60.0 + 7.5 * OPS[op].len() as f64;
+        let wide = 60.0 + 7.5 * name.len() as f64;
         if at + wide > 960.0 {
             (at, down) = (70.0, down + 24.0);
         }
         let _ = writeln!(o, "<line x1=\"{at}\" y1=\"{down}\" x2=\"{}\" y2=\"{down}\" stroke=\"{}\" stroke-width=\"3\"/>", at + 24.0, COLOURS[op]);
-        let _ = writeln!(o, "<text x=\"{}\" y=\"{}\" fill=\"#222\">{}</text>", at + 30.0, down + 4.0, OPS[op]);
+        let _ = writeln!(o, "<text x=\"{}\" y=\"{}\" fill=\"#222\">{}</text>", at + 30.0, down + 4.0, name);
         at += wide;
     }
     let _ = writeln!(o, "<text x=\"70\" y=\"{}\" fill=\"#222\">solid: driver, dashed: Rust</text>", down + 30.0);

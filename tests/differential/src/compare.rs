@@ -9,6 +9,8 @@ use crate::pattern_check;
 use crate::pattern_gen;
 use crate::patterns;
 use crate::protocol::{self, Request};
+use crate::report_check;
+use crate::reports;
 use std::io::{Read, Write};
 use std::process::{Command, Stdio};
 use std::time::{Duration, Instant};
@@ -163,10 +165,16 @@ impl std::fmt::Display for LoopTally {
     }
 }
 
+/// At most so many characters of a text.
+fn cut(s: &str, most: usize) -> String {
+    if s.len() > most { format!("{}... ({} characters)", s.chars().take(most).collect::<String>(), s.len()) } else { s.into() }
+}
+
+/// An answer in one line, long lines of it cut, so that what stands behind a table is seen.
 pub fn clip(b: &[u8]) -> String {
     let s = String::from_utf8_lossy(b);
-    let s = s.trim_end_matches('\n').replace('\n', " | ");
-    if s.len() > 600 { format!("{}... ({} characters)", s.chars().take(600).collect::<String>(), s.len()) } else { s }
+    let lines: Vec<String> = s.trim_end_matches('\n').split('\n').map(|line| cut(line, 300)).collect();
+    cut(&lines.join(" | "), 900)
 }
 
 /// Runs the driver on an input; what it wrote, and a word on how it ended where that was not well.
@@ -280,6 +288,7 @@ pub fn compare(trials: &str, seed: u64, count: u64, numbers: &[u8], shrinking: b
     let mut tally: std::collections::BTreeMap<(u8, String), u64> = Default::default();
     let (mut turns, mut loops) = (Turns::default(), LoopTally::default());
     let (mut made, mut typed) = (pattern_check::Tally::default(), line_check::Tally::default());
+    let mut reported = report_check::Tally::default();
     let (mut done, mut differences, mut told) = (0u64, 0u64, 0);
     while done < count {
         let n = BATCH.min(count - done);
@@ -300,6 +309,7 @@ pub fn compare(trials: &str, seed: u64, count: u64, numbers: &[u8], shrinking: b
             turns.count(r);
             made.count(r);
             typed.count(r);
+            reported.count(r);
             let want = protocol::expected(r);
             let text = String::from_utf8_lossy(&want);
             loops.count(r, &text);
@@ -363,6 +373,9 @@ pub fn compare(trials: &str, seed: u64, count: u64, numbers: &[u8], shrinking: b
     if numbers.contains(&9) {
         println!("{typed}");
     }
+    if numbers.contains(&10) {
+        println!("{reported}");
+    }
     println!("seed {seed}: {done} requests compared, {differences} differences, {:.1} s", begun.elapsed().as_secs_f64());
     i32::from(differences > 0)
 }
@@ -386,6 +399,10 @@ fn describe(trials: &str, r: &Request) {
         Request::Children(kind) => println!("    kind {kind}"),
         Request::Line { actions, line, out_len, fill } => {
             println!("    {actions} actions, line {:?}\n    output of {out_len} bytes {fill}", String::from_utf8_lossy(line))
+        }
+        Request::Report { sheet, states, table_len, fill, out_len, out_fill } => {
+            println!("    sheet {sheet:?}\n    states {states:?}");
+            println!("    table of {table_len} bytes {fill}, output of {out_len} bytes {out_fill}")
         }
     }
     println!("    oracle {}", clip(&protocol::answers(&b)));
@@ -725,6 +742,27 @@ fn candidates(r: &Request) -> Vec<Request> {
             for l in [0, out_len / 2, out_len.saturating_sub(1)] {
                 if l < *out_len {
                     put(*actions, line, l);
+                }
+            }
+            out
+        }
+        Request::Report { sheet, states, table_len, fill, out_len, out_fill } => {
+            let mut out = Vec::new();
+            let mut put = |sheet: &[u8], states: &[u8], table_len: u16, out_len: u16| {
+                let (sheet, states) = (sheet.to_vec(), states.to_vec());
+                out.push(Request::Report { sheet, states, table_len, fill: *fill, out_len, out_fill: *out_fill })
+            };
+            for states in smaller_bytes(states) {
+                put(sheet, &states, *table_len, *out_len);
+            }
+            for s in smaller_sheets(sheet) {
+                let fit = (*table_len as usize + cells(&s)).saturating_sub(cells(sheet)) as u16;
+                put(&s, states, fit, *out_len);
+                put(&s, states, *table_len, *out_len);
+            }
+            for l in [0, reports::ROOM as u16 - 1, reports::ROOM as u16] {
+                if l < *out_len {
+                    put(sheet, states, *table_len, l);
                 }
             }
             out

@@ -4,6 +4,8 @@ use crate::line_gen;
 use crate::oracle::{self, assemble};
 use crate::pattern_gen;
 use crate::protocol::Request;
+use crate::report_gen;
+use crate::reports::ROOM;
 
 pub struct Rng(u64);
 
@@ -869,12 +871,12 @@ pub fn buffer_len(r: &mut Rng, exact: usize) -> usize {
     n.min(65535)
 }
 
-fn cells(sheet: &[u8]) -> usize {
+pub fn cells(sheet: &[u8]) -> usize {
     oracle::read(sheet).map_or(20, |s| s.parts.cells())
 }
 
 /// A buffer for a table of so many cells: now and then one that ends within its count or just behind it.
-fn table_buffer_len(r: &mut Rng, cells: usize) -> usize {
+pub fn table_buffer_len(r: &mut Rng, cells: usize) -> usize {
     if r.chance(10) { cells + r.below(6) } else { buffer_len(r, cells + 4) }
 }
 
@@ -906,25 +908,59 @@ fn by_loops(sheet: &[u8]) -> [Vec<u8>; 2] {
     [1, 0].map(|side| (0..ok.parts.states as u8).filter(|&s| looping >> s & 1 == side).collect())
 }
 
+/// So many states for a list of queries, or all: most of them the plan's, often one from which a loop can be reached and one from
+/// which none can.
+pub fn states(r: &mut Rng, sheet: &[u8], count: usize) -> Vec<u8> {
+    let states = oracle::read(sheet).map_or(4, |s| s.parts.states);
+    let mut list: Vec<u8> = (0..count)
+        .map(|_| match r.below(12) {
+            0 => states as u8,
+            1 => r.byte(),
+            _ => r.below(states) as u8,
+        })
+        .collect();
+    if r.chance(20) {
+        list = (0..states as u8).collect();
+        if r.chance(50) {
+            r.shuffle(&mut list);
+        }
+        if r.chance(30) {
+            list.push(states as u8);
+            list.insert(0, 255);
+        }
+    }
+    if r.chance(50) {
+        for side in by_loops(sheet).iter().filter(|v| !v.is_empty()) {
+            let at = r.below(list.len() + 1);
+            list.insert(at, r.pick(side));
+        }
+    }
+    list.truncate(65_535);
+    list
+}
+
 /// Work of the plain iteration above which a reference request is not made.
 const WORK: u64 = 60_000;
 
-/// Request number `index` of a seed. The first two are the deepest chain of cells that we know how to make; the next two have
-/// its plan with a loop at the last state but one and at the last.
+/// Request number `index` of a seed. The first three are the deepest chain of cells that we know how to make; the next three have
+/// its plan with a loop at the last state but one or at the last.
 pub fn request_at(seed: u64, index: u64, numbers: &[u8]) -> Request {
     let mut r = Rng::new(seed, index);
-    if index < 4 && numbers.contains(&(4 + index as u8 % 2)) {
+    let number = [4, 5, 10][index as usize % 3];
+    if index < 6 && numbers.contains(&number) {
         let mut p = deep(&mut r, 128, 64);
-        if index >= 2 {
-            let s = 124 + index as u8;
+        if index >= 3 {
+            let s = 126 + index as u8 % 2;
             p.transitions.push([s, 0, s]);
             p.transitions.sort();
         }
         let sheet = p.sheet();
         let len = cells(&sheet) + 4;
-        return match index % 2 {
-            0 => Request::List { sheet, table_len: len as u16, fill: 7, states: vec![0, 127, 0] },
-            _ => Request::Query { sheet, state: 0, table: vec![0; len] },
+        let (table_len, fill, states) = (len as u16, 7, vec![0, 127, 0]);
+        return match number {
+            4 => Request::List { sheet, table_len, fill, states },
+            5 => Request::Query { sheet, state: 0, table: vec![0; len] },
+            _ => Request::Report { sheet, states, table_len, fill, out_len: ROOM as u16, out_fill: 9 },
         };
     }
     request(&mut r, numbers)
@@ -952,38 +988,15 @@ fn request(r: &mut Rng, numbers: &[u8]) -> Request {
         }
         4 => {
             let sheet = sheet(r, 85);
-            let states = oracle::read(&sheet).map_or(4, |s| s.parts.states);
-            let q = match r.below(10) {
+            let count = match r.below(10) {
                 0 => 0,
                 1..=3 => 1,
                 4..=7 => r.range(1, 8),
                 _ => r.range(1, 30),
             };
-            let mut list: Vec<u8> = (0..q)
-                .map(|_| match r.below(12) {
-                    0 => states as u8,
-                    1 => r.byte(),
-                    _ => r.below(states) as u8,
-                })
-                .collect();
-            if r.chance(20) {
-                list = (0..states as u8).collect();
-                if r.chance(50) {
-                    r.shuffle(&mut list);
-                }
-                if r.chance(30) {
-                    list.push(states as u8);
-                    list.insert(0, 255);
-                }
-            }
-            if r.chance(50) {
-                for side in by_loops(&sheet).iter().filter(|v| !v.is_empty()) {
-                    let at = r.below(list.len() + 1);
-                    list.insert(at, r.pick(side));
-                }
-            }
+            let states = states(r, &sheet, count);
             let fill = if r.chance(40) { r.pick(&[0, 1, 2, 3, 255]) } else { r.byte() };
-            Request::List { table_len: table_buffer_len(r, cells(&sheet)) as u16, sheet, fill, states: list }
+            Request::List { table_len: table_buffer_len(r, cells(&sheet)) as u16, sheet, fill, states }
         }
         5 => {
             let sheet = sheet(r, 90);
@@ -1025,6 +1038,7 @@ fn request(r: &mut Rng, numbers: &[u8]) -> Request {
         7 => pattern_gen::request(r),
         8 => Request::Children(if r.chance(50) { r.below(12) as u8 } else { r.byte() }),
         9 => line_gen::request(r),
+        10 => report_gen::request(r),
         _ => {
             let mut b = bodies(r);
             if r.chance(1) {

@@ -5,7 +5,7 @@ use crate::line_gen;
 use crate::lines::{self, MOST};
 use crate::oracle;
 use crate::protocol::Request;
-use crate::report;
+use crate::tell;
 
 /// What was found to agree.
 #[derive(Default)]
@@ -93,7 +93,7 @@ fn random(seed: u64, count: u64) -> Result<Agreed, String> {
 }
 
 pub fn selfcheck(seed: u64, count: u64) -> i32 {
-    report([(format!("seed {seed}"), random(seed, count)), ("seven words and parentheses at most".into(), exhaustive())])
+    tell([(format!("seed {seed}"), random(seed, count)), ("seven words and parentheses at most".into(), exhaustive())])
 }
 
 /// What was made of lines, for `compare`.

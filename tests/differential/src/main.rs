@@ -1,4 +1,4 @@
-//! Differential tests and a benchmark of the trial driver, against an implementation of documents 01 and 02 (a) to (f) of its own.
+//! Differential tests and a benchmark of the trial driver, against an implementation of documents 01 and 02 (a) to (g) of its own.
 
 mod bench;
 mod compare;
@@ -11,17 +11,20 @@ mod pattern_check;
 mod pattern_gen;
 mod patterns;
 mod protocol;
+mod report_check;
+mod report_gen;
+mod reports;
 
 use std::io::{Read, Write};
 
 const USAGE: &str = "usage:
   differential vectors DIR                  stored requests of DIR (NAME.stdin, NAME.stdout) against the oracle
   differential selfcheck [--seed N] [--count N]
-                                            the oracle's query, and its translated patterns, against its own Table 1;
-                                            its bodies of lines against what the lines say of actions
-  differential compare TRIALS [--seed N] [--count N] [--requests 1,2,3,4,5,6,7,8,9] [--no-shrink]
+                                            the oracle's query, its translated patterns and its reports against its own
+                                            Table 1; its bodies of lines against what the lines say of actions
+  differential compare TRIALS [--seed N] [--count N] [--requests 1,2,3,4,5,6,7,8,9,10] [--no-shrink]
                                             made requests, the trial driver against the oracle
-  differential bench TRIALS [--requests 1,2,3,4,5,6,7,8,9] [--out DIR]
+  differential bench TRIALS [--requests 1,2,3,4,5,6,7,8,9,10] [--out DIR]
                                             instructions and time, the trial driver against the oracle
   differential serve                        answers requests on standard input, as the trial driver does";
 
@@ -35,9 +38,9 @@ fn number(args: &[String], name: &str) -> Option<u64> {
 
 fn requests(args: &[String]) -> Vec<u8> {
     option(args, "--requests")
-        .unwrap_or_else(|| "1,2,3,4,5,6,7,8,9".into())
+        .unwrap_or_else(|| "1,2,3,4,5,6,7,8,9,10".into())
         .split(',')
-        .map(|v| v.parse().ok().filter(|n| (1..=9).contains(n)).unwrap_or_else(|| panic!("--requests: {v}")))
+        .map(|v| v.parse().ok().filter(|n| (1..=10).contains(n)).unwrap_or_else(|| panic!("--requests: {v}")))
         .collect()
 }
 
@@ -61,8 +64,12 @@ fn run(args: Vec<String>) -> i32 {
             let seed = number(&args, "--seed").unwrap_or_else(compare::clock);
             let count = number(&args, "--count").unwrap_or(5000);
             // each with how many times over
-            let checks: [(fn(u64, u64) -> i32, u64); 3] =
-                [(compare::selfcheck, 1), (pattern_check::selfcheck, 4), (line_check::selfcheck, 20)];
+            let checks: [(fn(u64, u64) -> i32, u64); 4] = [
+                (compare::selfcheck, 1),
+                (pattern_check::selfcheck, 4),
+                (line_check::selfcheck, 20),
+                (report_check::selfcheck, 1),
+            ];
             checks.iter().map(|(check, times)| check(seed, times * count)).find(|&code| code != 0).unwrap_or(0)
         }
         (Some("compare"), Some(trials)) => compare::compare(
@@ -83,7 +90,7 @@ fn run(args: Vec<String>) -> i32 {
 }
 
 /// What checks found, each with what was tried; 1 where one of them failed.
-fn report<A: std::fmt::Display>(checks: impl IntoIterator<Item = (String, Result<A, String>)>) -> i32 {
+fn tell<A: std::fmt::Display>(checks: impl IntoIterator<Item = (String, Result<A, String>)>) -> i32 {
     for (what, found) in checks {
         match found {
             Ok(agreed) => println!("{what}: {agreed}"),

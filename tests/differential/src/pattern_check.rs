@@ -5,7 +5,7 @@ use crate::oracle::{self, assemble};
 use crate::pattern_gen;
 use crate::patterns::{self, Part, Pattern};
 use crate::protocol::Request;
-use crate::report;
+use crate::tell;
 
 /// What was found to agree.
 #[derive(Default)]
@@ -105,7 +105,7 @@ fn random(seed: u64, count: u64) -> Result<Agreed, String> {
 }
 
 pub fn selfcheck(seed: u64, count: u64) -> i32 {
-    report([(format!("seed {seed}"), random(seed, count)), ("two states, two operators at most".into(), exhaustive())])
+    tell([(format!("seed {seed}"), random(seed, count)), ("two states, two operators at most".into(), exhaustive())])
 }
 
 /// What was made of patterns, for `compare`.

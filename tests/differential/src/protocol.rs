@@ -1,6 +1,6 @@
 //! The trial driver's protocol (TRIALS.md): requests from bytes, and the lines that answer each.
 
-use crate::{lines, oracle, patterns};
+use crate::{lines, oracle, patterns, reports};
 use std::io::Write;
 
 #[derive(Clone, PartialEq, Eq, Debug)]
@@ -14,6 +14,7 @@ pub enum Request {
     Pattern { sheet: Vec<u8>, pattern: Vec<u8>, out_len: u16, fill: u8 },
     Children(u8),
     Line { actions: u8, line: Vec<u8>, out_len: u16, fill: u8 },
+    Report { sheet: Vec<u8>, states: Vec<u8>, table_len: u16, fill: u8, out_len: u16, out_fill: u8 },
 }
 
 fn blob(out: &mut Vec<u8>, b: &[u8]) {
@@ -33,6 +34,7 @@ impl Request {
             Request::Pattern { .. } => 7,
             Request::Children(_) => 8,
             Request::Line { .. } => 9,
+            Request::Report { .. } => 10,
         }
     }
 
@@ -69,6 +71,14 @@ impl Request {
                 out.extend(out_len.to_le_bytes());
                 out.push(*fill);
             }
+            Request::Report { sheet, states, table_len, fill, out_len, out_fill } => {
+                blob(out, sheet);
+                blob(out, states);
+                out.extend(table_len.to_le_bytes());
+                out.push(*fill);
+                out.extend(out_len.to_le_bytes());
+                out.push(*out_fill);
+            }
         }
     }
 }
@@ -84,6 +94,7 @@ pub enum View<'a> {
     Pattern { sheet: &'a [u8], pattern: &'a [u8], out_len: usize, fill: u8 },
     Children(u8),
     Line { actions: u8, line: &'a [u8], out_len: usize, fill: u8 },
+    Report { sheet: &'a [u8], states: &'a [u8], table_len: usize, fill: u8, out_len: usize, out_fill: u8 },
 }
 
 pub struct Input<'a> {
@@ -125,6 +136,14 @@ impl<'a> Input<'a> {
             7 => View::Pattern { sheet: self.blob()?, pattern: self.blob()?, out_len: self.word()?, fill: self.byte()? },
             8 => View::Children(self.byte()?),
             9 => View::Line { actions: self.byte()?, line: self.blob()?, out_len: self.word()?, fill: self.byte()? },
+            10 => View::Report {
+                sheet: self.blob()?,
+                states: self.blob()?,
+                table_len: self.word()?,
+                fill: self.byte()?,
+                out_len: self.word()?,
+                out_fill: self.byte()?,
+            },
             _ => return None,
         })
     }
@@ -210,6 +229,17 @@ pub fn answer(request: &View, out: &mut Vec<u8>) {
                 Err(r) => (r, 0),
             };
             let _ = writeln!(out, "line {n} {p} {len}");
+            hex("out", &buffer, out);
+            Ok(())
+        }
+        View::Report { sheet, states, table_len, fill, out_len, out_fill } => {
+            let (mut table, mut buffer) = (vec![*fill; *table_len], vec![*out_fill; *out_len]);
+            let ((n, p), len) = match reports::report(sheet, states, &mut table, &mut buffer) {
+                Ok(len) => ((0, 0), len),
+                Err(r) => (r, 0),
+            };
+            let _ = writeln!(out, "report {n} {p} {len}");
+            hex("table", &table, out);
             hex("out", &buffer, out);
             Ok(())
         }

@@ -42,6 +42,7 @@ use Rattle.judge.proofs.lists.LongerTables.{reports-cleared}
 -- on the cleared bytes alone: what is past them is not looked at
 asked : (s : List ℕ) (states : List ℕ) (answers : List QueryReport) → sheetCheck s ≡ Passed → reports s (replicate (tableBytes s) 0) states ≡ answers → Asked s (tableBytes s) states answers
 asked s states answers accepted e = record {
+  accepted = accepted;
   table-size = refl;
   report = λ t fits r u reported left c q.
       let same : reported ≡ answers = cleared-report s t states r u reported left c q ∙ reports-cleared s accepted states t fits ∙ e in

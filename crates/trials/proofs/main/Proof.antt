@@ -6,10 +6,10 @@ use Rattle.trials.proofs.main.Statement.{statement}
 use Rattle.trials.proofs.main.Tie as tie
 
 abbrev Inv-loop : tie.InvT-loop
-Inv-loop first₀ second₀ third₀ turns₀ first second third turns = Unit {0}
+Inv-loop first₀ second₀ third₀ fourth₀ turns₀ first second third fourth turns = Unit {0}
 
 abbrev μ-loop : tie.MeasureT-loop
-μ-loop first₀ second₀ third₀ turns₀ first second third turns = turns
+μ-loop first₀ second₀ third₀ fourth₀ turns₀ first second third fourth turns = turns
 
 large-buffer-requires : tie.Need-large-buffer-requires Inv-loop μ-loop
 large-buffer-requires c κs = tt
@@ -19,6 +19,9 @@ large-buffer-requires-2 c κs = tt
 
 large-buffer-requires-3 : tie.Need-large-buffer-requires-3 Inv-loop μ-loop
 large-buffer-requires-3 c κs = tt
+
+large-buffer-requires-4 : tie.Need-large-buffer-requires-4 Inv-loop μ-loop
+large-buffer-requires-4 c κs = tt
 
 loop-holds : tie.Need-loop-holds Inv-loop μ-loop
 loop-holds c = tt
@@ -43,4 +46,4 @@ returns-2 c = tt
 
 pub main-spec : {M : Type 1} → statement M
 main-spec =
-    tie.close (tie.spec Inv-loop μ-loop large-buffer-requires large-buffer-requires-2 large-buffer-requires-3 loop-holds next-requires sub-turns loop-less loop-again returns returns-2)
+    tie.close (tie.spec Inv-loop μ-loop large-buffer-requires large-buffer-requires-2 large-buffer-requires-3 large-buffer-requires-4 loop-holds next-requires sub-turns loop-less loop-again returns returns-2)

@@ -4,7 +4,7 @@ use Prim.Native.Nat.{ℕ}
 use mathlib.Core.Path.{subst}
 use mathlib.Core.List.{List}
 use denote.Ref.{now}
-use Rattle.plan_judge.specs.Line.{PutsLine}
+use Rattle.text.specs.Placing.{Puts}
 use Rattle.plan_judge.proofs.Cutting.{held-line}
 use Rattle.plan_judge.proofs.judging.judge_input.Statement.{statement}
 use Rattle.plan_judge.proofs.judging.judge_input.Tie as tie
@@ -25,7 +25,7 @@ returns c =
     let a = start .args in (
       judged .judge-line .ensures .0,
       λ file h. subst
-          (λ (l : List ℕ). PutsLine l (judged .judge-line .result) (now (a .text)) (judged .judge-line .last .1 .0))
+          (λ (l : List ℕ). Puts l (judged .judge-line .result) (now (a .text)) (judged .judge-line .last .1 .0))
           (held-line file (now (a .input)) (a .n) (start .pre .0) h) (judged .judge-line .ensures .1),
     )
 

@@ -1,0 +1,5 @@
+pub mod Inputs
+pub mod Answers
+pub mod Texts
+pub mod Cutting
+pub mod Statements

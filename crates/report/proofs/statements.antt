@@ -1,0 +1,2 @@
+pub mod ReportCorrect
+pub mod ReportsToTry

@@ -1,0 +1,3 @@
+pub mod LentAgain
+pub mod LineSteps
+pub mod ReportAnswers
