@@ -3,11 +3,12 @@
 DRIVER := target/bin/trials
 PROGRAM := target/bin/plan_judge
 REPORTER := target/bin/counter_report
+SHEET := target/made.sheet
 STORED := target/stored
 DIFFERENTIAL := cd tests/differential && cargo run --release --offline --quiet --
 
-.PHONY: gate check examples reports trials store runs lines long count differential memory \
-	benchmark help
+.PHONY: gate check examples reports sheet trials store runs lines long texts count differential \
+	memory benchmark help
 
 gate: ## prove all from nothing, try the must-fail edits, run the programs (rt ci)
 	.ci/run
@@ -15,13 +16,18 @@ gate: ## prove all from nothing, try the must-fail edits, run the programs (rt c
 check: ## prove what changed since the last check, and run the programs that did
 	rt check
 
-examples: ## judge the sheets of examples/ and others, and compare with what is right
-	rt check plan_judge
+examples: ## judge the sheets of examples/ and others, make some from texts, and compare
+	rt check plan_judge trials
 	python3 tests/sheets.py check examples $(PROGRAM)
+	python3 tests/sheets.py texts examples $(DRIVER)
 
 reports: ## print reports on about a thousand inputs, and compare with what is right
 	rt check counter_report
 	python3 tests/counter_report.py examples $(REPORTER)
+
+sheet: ## write SHEET from the .aut file AUT and typed bodies, ACTIONS='..' RULE='..'
+	rt check trials
+	python3 tests/aut_sheet.py '$(AUT)' '$(ACTIONS)' '$(RULE)' '$(SHEET)'
 
 trials: ## say whether the stored trials are what tests/cases.py makes
 	mkdir -p $(STORED)
@@ -42,6 +48,10 @@ lines: ## compare what 20,000 lines become with what they say of actions
 long: ## read lines of a million words and parentheses on a small stack
 	rt check action_line
 	python3 tests/long_lines.py
+
+texts: ## turn .aut texts of a million bytes into plans on a small stack
+	rt check aut
+	python3 tests/long_texts.py
 
 count: ## read the counts that some thousands of tables store, and compare with what is right
 	rt check judge

@@ -1,24 +1,32 @@
 #!/usr/bin/env python3
-"""The example sheets and the example report, each with a page that explains it.
+"""The example sheets, the text of one's plan and the example report, with pages that explain them.
 
     sheets.py write DIR            writes DIR/NAME.sheet, or DIR/NAME.report, and DIR/NAME.txt for
-                                   each
+                                   each, and DIR/NAME.aut for a plan that has a text
     sheets.py check DIR PROGRAM    runs PROGRAM on each sheet of DIR and compares with the last line
                                    of its page; then on sheets at the limits and on refused ones,
                                    and compares with what docs/FORMAT.md says
+    sheets.py texts DIR DRIVER     makes each sheet of DIR that has an .aut text anew from it, by
+                                   tests/aut_sheet.py and the trial driver DRIVER, and compares with
+                                   the sheet; then others, and refused ones
     sheets.py deepest FILE         the sheet on which a query nests deepest
 """
+import re
 import subprocess
 import sys
+import tempfile
 import textwrap
 from pathlib import Path
 
+from inputs.aut_parts import text
 from inputs.examples import COUNTER, CUT, KEY, LOOP_AHEAD, SPARE, WORN_KEPT
 from inputs.parts import (
     GREATEST_X, K, K8, K_ACTIONS, K_PLAN, K_RULE, LEAST, LEAST_LOOP, LEAST_X, LONG, deepest, plan,
-    refusals)
+    refusals, rule, table)
+from native import HERE
+from oracle.aut import read_text
 from oracle.program import line_of, lines_of
-from oracle.sheet import sheet_of, triples, word
+from oracle.sheet import bodies_at, read_sheet, sheet_of, triples, word
 
 KINDS = ('F', 'T', 'or', 'and', 'some', 'every', 'variable', 'least', 'greatest')
 
@@ -63,6 +71,18 @@ def shown(rows):
     return ['  %-18s %s' % (','.join(map(str, b)), text) for b, text in rows]
 
 
+def text_rows(example):
+    """the lines of the plan's text, each with what it says or becomes"""
+    first, *lines = example['text'].decode().splitlines()
+    states, transitions = read_text(example['text'])
+    yield first, 'first state 0, %d transitions, %s states' % (len(transitions), states.decode())
+    labels = []
+    for line, (source, label, to) in zip(lines, transitions):
+        new = '' if label in labels else ': "%s" is action %d' % (label.decode(), len(labels))
+        labels += [label] if new else []
+        yield line, '%s,%d,%s%s' % (source.decode(), labels.index(label), to.decode(), new)
+
+
 def page(example):
     s = sheet_of(*example['bodies'])
     out = [*filled(example['title']), '', 'Plan', *filled(example['plan']), '',
@@ -70,6 +90,10 @@ def page(example):
            *shown(byte_rows(example))]
     if 'also' in example:
         out += ['', *filled(example['also'])]
+    if 'text' in example:
+        out += ['', 'The plan as a text, %s.aut' % example['name'],
+                *('  %-24s %s' % row for row in text_rows(example)),
+                *filled(example['of the text'])]
     return '\n'.join([*out, '', 'The program plan_judge prints', line_of(s), ''])
 
 
@@ -127,17 +151,79 @@ def check(folder, program):
     return min(wrong, 1)
 
 
+def typed(body):
+    return ','.join(map(str, body))
+
+
+def from_texts(folder):
+    """.aut texts with action formulas and rules as they are typed; the sheet of each, or what is
+    said of it"""
+    for file in sorted(Path(folder).glob('*.aut')):
+        s = file.with_suffix('.sheet').read_bytes()
+        _, a, r = bodies_at(s, read_sheet(s))
+        yield file.read_bytes(), typed(a), typed(r), s
+        yield file.read_bytes(), typed(a).replace(',', ' '), typed(r).replace(',', ', '), s
+    # the command of the page for designers
+    found = re.search(r"aut_sheet.py (.*) \\\n *'(.*)' \\\n *'([^']*)'",
+                      (HERE / 'docs/AUT.md').read_text())
+    file = HERE / found[1]
+    yield file.read_bytes(), found[2], found[3], file.with_suffix('.sheet').read_bytes()
+    p, a, r = CUT['bodies']
+    given, actions, nodes = CUT['text'], typed(a), typed(r)
+    either = table((2, 4, 0), (2, 5, 0), (3, 0, 1))
+    yield given, 'line 4 or 5', '2 4,2,1 1,0,0', sheet_of(p, either, rule((4, 2, 1), (1, 0, 0)))
+    yield text(1), '0', '1 1 0 0', sheet_of(*LEAST)
+    for other, line in ((given[:-1], 'refused 37 0'), (text(7, (0, b'a', 7)), 'refused 38 0'),
+                        (text(129), 'refused 39 0')):
+        yield other, actions, nodes, line
+    for other, line in (('line 4 5', 'refused 32 0'), ('line 6', 'refused 33 0'),
+                        ('line' + ' not' * 32 + ' 5', 'refused 34 0'), ('', 'refused 6 0'),
+                        ('2 1,0,0 2,6,0', 'refused 7 1'), ('1 256,0,0', '256 is no byte')):
+        yield given, other, nodes, line
+    for other, line in (('', 'refused 8 0'), ('2 3,1,2 1,0,0', 'refused 9 0'),
+                        ('1 6,0,0', 'refused 10 0'), ('one', 'one is no byte')):
+        yield given, actions, other, line
+    yield b'(' * 65536, actions, nodes, 'a request of the trial driver has room for 65,535 bytes'
+
+
+def texts(folder, driver):
+    wrong = 0
+    command = [sys.executable, str(HERE / 'tests/aut_sheet.py'), '--driver', driver]
+    with tempfile.TemporaryDirectory() as made:
+        for i, (given, actions, nodes, wanted) in enumerate(from_texts(folder)):
+            file, sheet = Path(made, '%d.aut' % i), Path(made, '%d.sheet' % i)
+            file.write_bytes(given)
+            words = [*command, str(file), actions, nodes]
+            one = subprocess.run(words, capture_output=True)
+            two = subprocess.run([*words, str(sheet)], capture_output=True)
+            held = sheet.read_bytes() if sheet.exists() else b''
+            found = one.stdout, one.stderr, two.stdout, two.stderr, held
+            if isinstance(wanted, bytes):
+                said, right = 'a sheet of %d bytes' % len(wanted), (wanted, b'', b'', b'', wanted)
+            else:
+                line = wanted.encode() + b'\n'
+                said, right = wanted, (b'', line, b'', line, b'')
+            wrong += found != right
+            print('text %d:' % i, said if found == right else '%s and not %s' % (found, right))
+    print('all as expected' if wrong == 0 else '%d wrong' % wrong)
+    return min(wrong, 1)
+
+
 def main(args):
     if args[:1] == ['write'] and len(args) == 2:
         for example in (KEY, CUT, SPARE):
             sheet = sheet_of(*example['bodies'])
             Path(args[1], example['name'] + '.sheet').write_bytes(sheet)
             Path(args[1], example['name'] + '.txt').write_text(page(example))
+            if 'text' in example:
+                Path(args[1], example['name'] + '.aut').write_bytes(example['text'])
         Path(args[1], COUNTER['name'] + '.report').write_bytes(report_input(COUNTER))
         Path(args[1], COUNTER['name'] + '.txt').write_text(report_page(COUNTER))
         return 0
     if args[:1] == ['check'] and len(args) == 3:
         return check(*args[1:])
+    if args[:1] == ['texts'] and len(args) == 3:
+        return texts(*args[1:])
     if args[:1] == ['deepest'] and len(args) == 2:
         Path(args[1]).write_bytes(deepest())
         return 0

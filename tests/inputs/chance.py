@@ -1,10 +1,11 @@
 """Bodies, sheets and requests made at random."""
 from inputs.parts import counted, plan, rule, table
+from oracle.aut import aut_body
 from oracle.lines import line_body
 from oracle.patterns import translate
 from oracle.protocol import (
-    guard_request, line_request, list_request, pattern_request, query_request, read_request,
-    reference_request, report_request, write_request)
+    aut_request, guard_request, line_request, list_request, pattern_request, query_request,
+    read_request, reference_request, report_request, write_request)
 from oracle.reports import ROOM
 from oracle.rows import Sheet
 from oracle.sheet import Refused, accepted, sheet_of
@@ -258,3 +259,43 @@ def random_report(rng, most=(3, 8, 16)):
     size += rng.choice((0, 0, 0, 0, 0, 0, 0, 1, 9, -1))
     room = rng.choice((ROOM,) * 9 + (ROOM + 1, ROOM + 30, ROOM - 1, rng.randrange(ROOM)))
     yield report_request(s, states, size, rng.randrange(256), room, rng.randrange(256))
+
+
+def random_rows(rng, states, count):
+    """transitions of an .aut text, with labels that are much alike; some come again"""
+    labels = [bytes(rng.choices(b'ab ,()1\0\r\xff', k=rng.choice((0, 1, 1, 2, 3))))
+              for _ in range(rng.choice((1, 2, 4, 9)))]
+    few = [(rng.randrange(states), rng.choice(labels), rng.randrange(states)) for _ in range(count)]
+    found = few + rng.choices(few, k=rng.randrange(count + 1))
+    rng.shuffle(found)
+    return found
+
+
+def random_text(rng, lines):
+    """an .aut text, whole or with a fault: a state, the count, the first state, or a byte"""
+    states = rng.choice((1, 2, 3, 8, 8, 128, 128, 129, 300, 10 ** 25))
+    rows = random_rows(rng, states, rng.choice(lines))
+    count, first = len(rows), 0
+    if rows and rng.random() < 0.1:
+        source, label, to = rows[0]
+        rows[0] = rng.choice(((states, label, to), (source, label, states + rng.randrange(300))))
+        rng.shuffle(rows)
+    if rng.random() < 0.06:
+        count += rng.choice((1, -1, 256, 10 ** 21))
+    if rng.random() < 0.03:
+        first = rng.choice((1, states))
+    spaces = [b' ' * (rng.random() < 0.7) for _ in range(3 + 2 * len(rows))]
+    whole = b'des%s(%d,%s%d,%s%d)\n' % (spaces[0], first, spaces[1], count, spaces[2], states)
+    for (source, label, to), one, two in zip(rows, spaces[3::2], spaces[4::2]):
+        whole += b'(%d,%s"%s",%s%d)\n' % (source, one, label, two, to)
+    return damaged(rng, whole) if rng.random() < 0.2 else whole
+
+
+def random_conversion(rng, lines=(0, 1, 2, 3, 5, 9)):
+    text = random_text(rng, lines)
+    try:
+        size = len(aut_body(text, 65535))
+    except Refused:
+        size = rng.randrange(8)
+    yield aut_request(text, max(0, size + rng.choice((0, 0, 0, 1, 5, -1, -20))),
+                      rng.randrange(256))

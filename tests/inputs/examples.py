@@ -1,4 +1,6 @@
-"""The example sheets and the example report, with the words that their pages say of them."""
+"""The example sheets, the example text of a plan and the example report, with the words that their
+pages say of them."""
+from inputs.aut_parts import text
 from inputs.parts import F, K, K_ACTIONS, K_PLAN, K_RULE, T, plan, rule, table
 from oracle.program import line_of
 from oracle.sheet import sheet_of
@@ -63,6 +65,13 @@ SPARE = {
 WORN_KEPT = sheet_of(*cutting(7, [t for t in CUT_TRANSITIONS if t != (3, 5, 6)]))
 LOOP_AHEAD = sheet_of(*cutting(9, [*SPARE_TRANSITIONS, (5, 3, 8)]))
 
+# in an order in which the labels get the numbers of the actions: deburring before any release
+CUT['text'] = text(7, (0, b'clamp', 1), (1, b'probe, sound', 2), (1, b'probe, worn', 3),
+                   (2, b'cut', 4), (4, b'deburr', 5), (5, b'release', 6), (3, b'release', 6))
+CUT['of the text'] = (
+    'It becomes the 25 bytes of the plan. Labels get action numbers in the order in which they '
+    'first stand; with the line of state 3 before that of state 4, "release" would be action 4 and '
+    '"deburr" 5. The transitions are put in order. docs/AUT.md says how to make the sheet of it.')
 CUT['also'] = ('Without the transition 3,5,6 the worn blank stays in the clamp for good, and '
                'plan_judge prints `%s`.' % line_of(WORN_KEPT))
 SPARE['also'] = ('The loop can\'t be reached from state 0, so plan_judge judges as it does for '

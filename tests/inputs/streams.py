@@ -1,9 +1,14 @@
 """The streams of requests: the one that is stored, and a longer one."""
 import random
 
+from inputs.aut_limits import longest_texts
+from inputs.aut_page import auts_to_try
+from inputs.aut_parts import text
+from inputs.auts import auts, read_plans
 from inputs.bodies import reading_and_writing
 from inputs.chance import (
-    random_judging, random_list, random_reading, random_report, random_translation, random_typing)
+    random_conversion, random_judging, random_list, random_reading, random_report,
+    random_translation, random_typing)
 from inputs.counts import counts_to_try
 from inputs.judging import judgings
 from inputs.line_limits import longest_lines
@@ -19,8 +24,8 @@ from inputs.reports import reports, reports_to_try
 from inputs.rules import children_to_try
 from inputs.to_try import to_try
 from oracle.protocol import (
-    answers, guard_request, line_request, list_request, pattern_request, query_request,
-    read_request, reference_request, report_request, write_request)
+    answers, aut_request, guard_request, line_request, list_request, pattern_request,
+    query_request, read_request, reference_request, report_request, write_request)
 from oracle.reports import ROOM
 from oracle.sheet import sheet_of, triples
 
@@ -42,6 +47,8 @@ def stored():
     yield from lines()
     yield from expected(*reports_to_try())
     yield from reports()
+    yield from expected(*auts_to_try(), *read_plans())
+    yield from auts()
 
 
 # an unknown request ends the run: what follows it gives nothing
@@ -110,3 +117,9 @@ def large():
         yield report_request(s, range(2, 130, 2), 65535, 218, ROOM - 1, 219)
     for _ in range(1500):
         yield from random_report(rng, (3, 8, 16, 40, 64))
+    for given in (*longest_texts(), full):
+        yield aut_request(given, 6148, 220)
+        yield aut_request(given, 6147, 221)
+    yield aut_request(text(2, (0, b'a', 1)), 65535, 222)
+    for _ in range(4000):
+        yield from random_conversion(rng, (0, 1, 2, 5, 9, 40, 300))

@@ -1,4 +1,5 @@
 """The trial driver's protocol (docs/TRIALS.md): requests as bytes, and the lines they give."""
+from oracle.aut import aut_body
 from oracle.lines import line_body
 from oracle.patterns import translate
 from oracle.reports import report
@@ -50,6 +51,10 @@ def line_request(actions, line, size, fill):
 def report_request(s, states, size, fill, room, other):
     return (b'\x0a' + blob_of(s) + blob_of(states) + two(size) + bytes([fill]) + two(room)
             + bytes([other]))
+
+
+def aut_request(text, size, fill):
+    return b'\x0b' + blob_of(text) + two(size) + bytes([fill])
 
 
 def yes(b):
@@ -167,9 +172,15 @@ def answer_report(stream):
     return text + 'table %s\nout %s\n' % (tab.hex(), out.hex())
 
 
+def answer_aut(stream):
+    given, out = stream.blob(), stream.buffer()
+    text = reported('aut', lambda: written(aut_body(given, len(out)), out), 0)
+    return text + 'out %s\n' % out.hex()
+
+
 ANSWERS = {1: answer_read, 2: answer_guard, 3: answer_reference, 4: answer_list, 5: answer_query,
            6: answer_write, 7: answer_pattern, 8: answer_children, 9: answer_line,
-           10: answer_report}
+           10: answer_report, 11: answer_aut}
 
 
 def answered(given):

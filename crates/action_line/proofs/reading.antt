@@ -3,8 +3,6 @@ pub mod Building
 -- which tokens are readable
 pub mod Readable
 -- how bytes spell tokens
-pub mod Decimals
-pub mod Numerals
 pub mod Words
 pub mod Spelling
 -- the whole

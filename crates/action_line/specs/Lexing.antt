@@ -1,36 +1,22 @@
 -- The tokens of every line, worked out: letters and digits with no other byte between them are one token. ReadingsExactly of
 -- specs/Reading.antt states what they give, by specs/Tokens.antt and specs/Grammar.antt.
-use Prim.Native.Nat.{ℕ, _+_, _-_, _*_}
-use mathlib.Core.Bool.{Bool, true, false, not, _&&_, _||_}
+use Prim.Native.Nat.{ℕ}
+use mathlib.Core.Bool.{true, false, _||_}
 use mathlib.Core.List.{List, [], _∷_, _++_}
 use lib.Dec.{eqb}
 use Rattle.sheet.specs.Bytes.{pick}
 use Rattle.text.specs.Words.{boolText}
 use Rattle.text.specs.Comparing.{sameText}
+use Rattle.text.specs.Numerals.{isDigit, isDecimal, decimalValue}
 use Rattle.action_line.specs.Tokens.{Token, number, trueWord, falseWord, notWord, andWord, orWord, openParenthesis, closeParenthesis}
-use Rattle.action_line.specs.Tokens.{invalid, notText, andText, orText, isDigit, isLetter}
+use Rattle.action_line.specs.Tokens.{invalid, notText, andText, orText, isLetter}
 
 -- ---- one number or word
-
-unfoldable pub allDigits : List ℕ → Bool
-allDigits [] = true
-allDigits (b ∷ ds) = isDigit b && allDigits ds
-
--- digits, with no zero in front of others
-abbrev pub isDecimal : List ℕ → Bool
-isDecimal [] = false
-isDecimal (b ∷ []) = isDigit b
-isDecimal (b ∷ c ∷ ds) = not (eqb b 48) && allDigits (b ∷ c ∷ ds)
-
--- the number of digits that come after those of n
-unfoldable pub decimalFrom : ℕ → List ℕ → ℕ
-decimalFrom n [] = n
-decimalFrom n (b ∷ ds) = decimalFrom (10 * n + (b - 48)) ds
 
 -- what letters and digits with no other byte between them spell
 unfoldable pub tokenOf : List ℕ → Token
 tokenOf w =
-    pick (isDecimal w) (number (decimalFrom 0 w))
+    pick (isDecimal w) (number (decimalValue w))
     (pick (sameText w (boolText true)) trueWord
     (pick (sameText w (boolText false)) falseWord
     (pick (sameText w notText) notWord (pick (sameText w andText) andWord (pick (sameText w orText) orWord invalid)))))

@@ -1,12 +1,11 @@
 -- Document 02 (e), "Action formulas typed as a line": the tokens of a line, and how its bytes spell them. Letters and signs are bytes in
 -- ASCII.
-use Prim.Native.Nat.{ℕ, _+_, _*_, _^_, _<_, _≤_}
+use Prim.Native.Nat.{ℕ}
 use mathlib.Core.Path.{_≡_}
 use mathlib.Core.Bool.{Bool, true, false, _&&_, _||_}
 use mathlib.Core.List.{List, [], _∷_, _++_}
-use mathlib.Core.Logic.{_↔_}
 use lib.Dec.{leb}
-use Rattle.text.specs.Decimal.{digitOf, decimalOf}
+use Rattle.text.specs.Numerals.{Decimal, isDigit}
 use Rattle.text.specs.Words.{boolText}
 
 -- "decimal action numbers without leading zeros, `true`, `false`, `not`, `and`, `or`, parentheses"
@@ -16,16 +15,6 @@ pub data Token : Type 0 where
   openParenthesis closeParenthesis : Token
   -- anything else, which nothing spells: a line that has it is unreadable
   invalid : Token
-
--- "decimal action numbers without leading zeros": the digits of a number, which may be of any size. A digit alone, 0 among them; a further
--- digit only after a number that is not 0.
-pub data Decimal : List ℕ → ℕ → Type 0 where
-  one-digit : (d : ℕ) → d < 10 → Decimal (digitOf d ∷ []) d
-  more-digits : {ds : List ℕ} {n : ℕ} (d : ℕ) → Decimal ds n → 1 ≤ n → d < 10 → Decimal (ds ++ digitOf d ∷ []) (10 * n + d)
-
--- The digits of a number of 64 bits are those that the crate text writes. Shown by decimals-agree of proofs/reading/Numerals.antt.
-abbrev pub DecimalsAgree : Type 0
-DecimalsAgree = (n : ℕ) → n < 2 ^ 64 → (ds : List ℕ) → Decimal ds n ↔ (ds ≡ decimalOf n)
 
 -- `not`
 abbrev pub notText : List ℕ
@@ -39,7 +28,7 @@ andText = 97 ∷ 110 ∷ 100 ∷ []
 abbrev pub orText : List ℕ
 orText = 111 ∷ 114 ∷ []
 
--- the letters and digits of a number or of a word
+-- the letters and digits of a number or of a word; "decimal action numbers without leading zeros", which may be of any size
 pub data Spelling : List ℕ → Token → Type 0 where
   spells-number : {ds : List ℕ} {n : ℕ} → Decimal ds n → Spelling ds (number n)
   spells-true : Spelling (boolText true) trueWord
@@ -47,10 +36,6 @@ pub data Spelling : List ℕ → Token → Type 0 where
   spells-not : Spelling notText notWord
   spells-and : Spelling andText andWord
   spells-or : Spelling orText orWord
-
--- `0` to `9`
-abbrev pub isDigit : ℕ → Bool
-isDigit b = leb 48 b && leb b 57
 
 -- `a` to `z`
 abbrev pub isLetter : ℕ → Bool

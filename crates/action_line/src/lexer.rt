@@ -5,7 +5,8 @@ ghost use mathlib.Core.Path.{_≡_};
 ghost use mathlib.Core.Bool.{false, true, _||_};
 ghost use Prim.Native.Nat.{_+_, _-_, _*_, _<_, _≤_};
 ghost use lib.ListN.{length, getD};
-ghost use Rattle.action_line.specs.Tokens.{isDigit, isLetter};
+ghost use Rattle.text.specs.Numerals.{isDigit};
+ghost use Rattle.action_line.specs.Tokens.{isLetter};
 ghost use Rattle.action_line.specs.Lexing.{tokenOf};
 ghost use Rattle.action_line.specs.internal.Lexemes.{atMost, leadingZero, capped, held, WordEnds, LexemeAt};
 

@@ -1,5 +1,6 @@
 pub mod Decimal
 pub mod DigitsFound
+pub mod Numerals
 pub mod Words
 pub mod Placing
 pub mod RefusalLines

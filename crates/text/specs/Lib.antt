@@ -1,4 +1,5 @@
 pub mod Decimal
+pub mod Numerals
 pub mod Words
 pub mod RefusalLine
 pub mod Placing

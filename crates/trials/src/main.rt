@@ -1,5 +1,6 @@
 // The trial driver: reads requests from standard input until it ends, and writes the result of each as text.
 mod children;
+mod convert;
 mod guard;
 mod input;
 mod line;
@@ -35,6 +36,7 @@ fn answer(
         8 => children::answer(),
         9 => line::answer(first, second),
         10 => reports::answer(first, second, third, fourth),
+        11 => convert::answer(first, second),
         _ => false,
     }
 }

@@ -1,5 +1,7 @@
 //! The benchmark: the trial driver and this program, each a process that reads the same stored requests.
 
+use crate::aut;
+use crate::aut_gen::{self, Line};
 use crate::compare::drive;
 use crate::gen::{self, Loops, Parts, Rng, Size};
 use crate::line_gen;
@@ -10,6 +12,7 @@ use crate::patterns;
 use crate::protocol::Request;
 use crate::reports::{MOST, ROOM};
 use std::fmt::Write as _;
+use std::ops::Range;
 use std::path::{Path, PathBuf};
 use std::process::{Command, Stdio};
 use std::time::Instant;
@@ -148,6 +151,57 @@ fn typing(made: Vec<Vec<u8>>) -> Vec<Request> {
     made.into_iter().map(|line| Request::Line { actions: ACTIONS, line, out_len: 97, fill: 7 }).collect()
 }
 
+/// The transitions of a text as its lines: labels by number.
+fn ways(r: &mut Rng, states: usize, labels: usize, count: usize) -> Vec<(usize, usize, usize)> {
+    let mut ways = aut_gen::transitions(r, states, labels, count);
+    // labels are numbered by first appearance, and so the lines are in the plan's order
+    let mut numbers: Vec<usize> = Vec::new();
+    for way in &mut ways {
+        way.1 = numbers.iter().position(|&label| label == way.1).unwrap_or_else(|| {
+            numbers.push(way.1);
+            numbers.len() - 1
+        });
+    }
+    ways.sort();
+    ways
+}
+
+/// The text of an .aut file of a size.
+fn drawn(name: &str, n: usize, index: u64) -> Vec<u8> {
+    let mut r = Rng::new(SEED, 3_000_000 + 1000 * n as u64 + index);
+    let alike = "y".repeat(400);
+    let lines: Vec<(usize, String, usize)> = match name {
+        AUT_LONG_LABEL => vec![(0, "x".repeat(500 * n), 1)],
+        AUT_LONG_LABELS => (0..n).map(|k| (k, format!("{alike}{k}"), 0)).collect(),
+        AUT_LONG_NUMBER => {
+            let digits = "1".repeat(250 * n - 1);
+            return format!("des (0, 1, {digits}2)\n({digits}1, \"probe\", 0)\n").into_bytes();
+        }
+        _ => {
+            let mut ways = match name {
+                AUT_SHORT => ways(&mut r, n / 8, 4, n / 4),
+                AUT_ONE_LABEL => ways(&mut r, n, 1, (16 * n).min(n * n)),
+                AUT_EQUAL => ways(&mut r, n, 4, n).repeat(24),
+                _ => ways(&mut r, n, 2 * n - 1, 16 * n),
+            };
+            match name {
+                AUT_IN_ORDER => {}
+                AUT_IN_REVERSE => ways.reverse(),
+                _ => r.shuffle(&mut ways),
+            }
+            ways.into_iter().map(|(from, label, to)| (from, format!("probe{label}"), to)).collect()
+        }
+    };
+    let states = if name == AUT_SHORT { n / 8 } else { n };
+    let line = |(from, label, to): (usize, String, usize)| Line { from: from.to_string(), label: label.into_bytes(), to: to.to_string() };
+    let lines = lines.into_iter().map(line).collect();
+    aut_gen::spelt(&mut r, 100, &aut_gen::Parts { first: "0".into(), stated: None, states: states.to_string(), lines })
+}
+
+fn drawing(made: Vec<Vec<u8>>) -> Vec<Request> {
+    made.into_iter().map(|text| Request::Aut { text, out_len: aut::ROOM as u16, fill: 7 }).collect()
+}
+
 struct Program {
     path: String,
     args: Vec<String>,
@@ -214,9 +268,18 @@ const LINE: &str = "reading a line";
 const PARENTHESES: &str = "reading many parentheses";
 const NOTS: &str = "refusing many nots";
 const LONG_NUMBER: &str = "refusing a long number";
+const AUT_SHORT: &str = "reading a short .aut text";
+const AUT_IN_ORDER: &str = "reading .aut lines in order";
+const AUT_IN_REVERSE: &str = "reading .aut lines in reverse";
+const AUT_ANY_ORDER: &str = "reading .aut lines in any order";
+const AUT_ONE_LABEL: &str = "reading .aut lines of one label";
+const AUT_EQUAL: &str = "reading equal .aut lines";
+const AUT_LONG_LABEL: &str = "reading a long .aut label";
+const AUT_LONG_LABELS: &str = "reading long .aut labels";
+const AUT_LONG_NUMBER: &str = "refusing a long .aut number";
 
 /// Each with its request.
-const OPS: [(&str, u8); 12] = [
+const OPS: [(&str, u8); 21] = [
     (READING, 1),
     (REFERENCE, 3),
     (FIRST_QUERY, 4),
@@ -229,6 +292,21 @@ const OPS: [(&str, u8); 12] = [
     (PARENTHESES, 9),
     (NOTS, 9),
     (LONG_NUMBER, 9),
+    (AUT_SHORT, 11),
+    (AUT_IN_ORDER, 11),
+    (AUT_IN_REVERSE, 11),
+    (AUT_ANY_ORDER, 11),
+    (AUT_ONE_LABEL, 11),
+    (AUT_EQUAL, 11),
+    (AUT_LONG_LABEL, 11),
+    (AUT_LONG_LABELS, 11),
+    (AUT_LONG_NUMBER, 11),
+];
+
+/// The plots, each with what it shows and its calls.
+const PLOTS: [(&str, &str, Range<usize>); 2] = [
+    ("benchmark.svg", "Instructions for one request, and their ratio, by n", 0..12),
+    ("benchmark-aut.svg", "The same for .aut texts", 12..OPS.len()),
 ];
 
 fn stream(requests: &[Request], times: usize) -> Vec<u8> {
@@ -333,7 +411,11 @@ pub fn bench(trials: &str, numbers: &[u8], out: &str) -> i32 {
                     let whole = translating(&made, |b| if name == PATTERN { b.to_vec() } else { long.clone() });
                     (whole, translating(&made, |_| vec![]))
                 }
-                _ => (typing(typed(name, n)), typing(vec![vec![]; SHEETS])),
+                LINE | PARENTHESES | NOTS | LONG_NUMBER => (typing(typed(name, n)), typing(vec![vec![]; SHEETS])),
+                _ => {
+                    let made = (0..SHEETS as u64).map(|index| drawn(name, n, index)).collect();
+                    (drawing(made), drawing(vec![vec![]; SHEETS]))
+                }
             };
             let tag = format!("{}-{n}", name.replace(' ', "-"));
             let input = store(&tag, &stream(&requests, 1));
@@ -379,9 +461,9 @@ pub fn bench(trials: &str, numbers: &[u8], out: &str) -> i32 {
             rows.push(row);
         }
     }
-    let page = page(&rows, &missing, &start, &start_time, &each, &load);
-    let svg = plot(&rows);
-    for (name, text) in [("BENCHMARK.md", page), ("benchmark.svg", svg)] {
+    let mut files = vec![("BENCHMARK.md", page(&rows, &missing, &start, &start_time, &each, &load))];
+    files.extend(plots(&rows).map(|(name, _, ops)| (name, plot(&rows, ops))));
+    for (name, text) in files {
         let p = Path::new(out).join(name);
         if let Err(e) = std::fs::write(&p, text) {
             eprintln!("{}: {e}", p.display());
@@ -390,6 +472,11 @@ pub fn bench(trials: &str, numbers: &[u8], out: &str) -> i32 {
         println!("{}", p.display());
     }
     0
+}
+
+/// The plots of which something was measured.
+fn plots(rows: &[Row]) -> impl Iterator<Item = (&'static str, &'static str, Range<usize>)> + '_ {
+    PLOTS.into_iter().filter(|(_, _, ops)| rows.iter().any(|r| ops.contains(&r.op)))
 }
 
 fn grouped(v: f64) -> String {
@@ -452,7 +539,7 @@ fn paragraph(text: &str) -> String {
 fn page(rows: &[Row], missing: &[&str], start: &[f64], start_time: &[f64], each: &[f64], load: &str) -> String {
     let mut o = String::new();
     o += "# Benchmark: the trial driver against a plain Rust program\n\n";
-    o += &paragraph("Made by one command, in `tests/differential` (this page and the plot are written anew by it):");
+    o += &paragraph("Made by one command, in `tests/differential` (this page and its plots are written anew by it):");
     o += "    cargo run --release --offline -- bench ../../target/bin/trials\n\n";
     o += &paragraph(
         "Both programs are processes that read the same stored requests (`target/release/bench/*.stdin`)
@@ -460,7 +547,8 @@ fn page(rows: &[Row], missing: &[&str], start: &[f64], start_time: &[f64], each:
         compiled Rattle program. The Rust program is `differential serve`, the implementation that the
         differential tests compare with: linear reading, a successor index, one mask for each action
         formula, the lent table as its memo, a formula with shared parts for a pattern, a stack of waiting
-        operators for a line; each call that takes a sheet reads it, as in the driver.",
+        operators for a line, a hash table of the labels and a sort of the transitions for an .aut text;
+        each call that takes a sheet reads it, as in the driver.",
     );
     o += &paragraph(
         "Sheets grow in every part: n states, about 16 n transitions of 4 actions, 8 action entries of any
@@ -485,6 +573,17 @@ fn page(rows: &[Row], missing: &[&str], start: &[f64], start_time: &[f64], each:
         lines are less that of the same request with a line of no bytes.",
     );
     o += &paragraph(
+        "Texts of .aut files need no sheet either. Their lines have every space that may be there, and
+        labels such as `probe7`. A short text has n / 8 states, n / 4 lines and up to 4 labels. Lines in
+        order are 16 n transitions of n states with 2 n - 1 labels, as they stand in the plan; then the same
+        from the last to the first, and in any order. Lines of one label are 16 n transitions (64 where n is
+        8) of n states, equal lines are 24 n with n different transitions of 4 labels, both in any order. A
+        long label has 500 n bytes and stands in the only line; long labels are n, each in one line, and
+        have 400 bytes alike and then a number. A long number: the number of states has 250 n digits, and
+        the only line leaves the state with the number before it; refused with 39. The figures of texts are
+        less that of the same request with a text of no bytes.",
+    );
+    o += &paragraph(
         "Instructions are those of `valgrind --tool=callgrind`; times are the shortest of 9 runs, the programs
         taking turns, and \"in the noise\" stands where what is left after taking away is under 15% of what
         was measured.",
@@ -498,7 +597,9 @@ fn page(rows: &[Row], missing: &[&str], start: &[f64], start_time: &[f64], each:
     if !missing.is_empty() {
         o += &paragraph(&format!("Not measured, since this driver does not answer the request: {}.", missing.join(", ")));
     }
-    o += "![Instructions for one request, and their ratio, by n](benchmark.svg)\n\n";
+    for (name, shown, _) in plots(rows) {
+        let _ = writeln!(o, "![{shown}]({name})\n");
+    }
     o += &paragraph("\"Growth\" is the factor over the row before, where n is half as large.");
     o += "| call | n | driver, instructions | growth | Rust, instructions | growth | ratio | driver, us | Rust, us | ratio of time |\n";
     o += "|---|---:|---:|---:|---:|---:|---:|---:|---:|---:|\n";
@@ -544,7 +645,7 @@ fn page(rows: &[Row], missing: &[&str], start: &[f64], start_time: &[f64], each:
     o + "\n"
 }
 
-fn plot(rows: &[Row]) -> String {
+fn plot(rows: &[Row], ops: Range<usize>) -> String {
     const COLOURS: [&str; 12] = [
         "#0072b2", "#d55e00", "#009e73", "#cc79a7", "#e69f00", "#aa4499", "#56b4e9", "#777777", "#332288", "#117733", "#882255",
         "#999933",
@@ -552,7 +653,7 @@ fn plot(rows: &[Row]) -> String {
     let mut o = String::new();
     o += "<svg xmlns=\"http://www.w3.org/2000/svg\" width=\"960\" height=\"540\" viewBox=\"0 0 960 540\" font-family=\"sans-serif\" font-size=\"13\">\n";
     o += "<rect width=\"960\" height=\"540\" fill=\"#ffffff\"/>\n";
-    let good: Vec<&Row> = rows.iter().filter(|r| r.instructions.iter().all(|v| *v > 0.0)).collect();
+    let good: Vec<&Row> = rows.iter().filter(|r| ops.contains(&r.op) && r.instructions.iter().all(|v| *v > 0.0)).collect();
     let x = |left: f64, n: usize| left + (n as f64 / 8.0).log2() * 92.0;
     // the left panel: instructions
     let low = good.iter().flat_map(|r| r.instructions).fold(f64::INFINITY, f64::min).log10().floor();
@@ -607,17 +708,18 @@ fn plot(rows: &[Row]) -> String {
         if mine.is_empty() {
             continue;
         }
+        let colour = COLOURS[op - ops.start];
         for k in 0..2 {
             let points: Vec<(f64, f64)> = mine.iter().map(|r| (x(80.0, r.size), y(r.instructions[k]))).collect();
-            o += &line(&points, COLOURS[op], if k == 0 { "" } else { " stroke-dasharray=\"5 4\"" });
+            o += &line(&points, colour, if k == 0 { "" } else { " stroke-dasharray=\"5 4\"" });
         }
         let points: Vec<(f64, f64)> = mine.iter().map(|r| (x(560.0, r.size), z(r.instructions[0] / r.instructions[1]))).collect();
-        o += &line(&points, COLOURS[op], "");
+        o += &line(&points, colour, "");
         let wide = 60.0 + 7.5 * name.len() as f64;
         if at + wide > 960.0 {
             (at, down) = (70.0, down + 24.0);
         }
-        let _ = writeln!(o, "<line x1=\"{at}\" y1=\"{down}\" x2=\"{}\" y2=\"{down}\" stroke=\"{}\" stroke-width=\"3\"/>", at + 24.0, COLOURS[op]);
+        let _ = writeln!(o, "<line x1=\"{at}\" y1=\"{down}\" x2=\"{}\" y2=\"{down}\" stroke=\"{}\" stroke-width=\"3\"/>", at + 24.0, colour);
         let _ = writeln!(o, "<text x=\"{}\" y=\"{}\" fill=\"#222\">{}</text>", at + 30.0, down + 4.0, name);
         at += wide;
     }

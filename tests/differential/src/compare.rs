@@ -1,5 +1,8 @@
 //! Comparisons: stored vectors, the oracle with itself, and the trial driver with the oracle.
 
+use crate::aut;
+use crate::aut_check;
+use crate::aut_gen;
 use crate::gen::{self, Parts, Rng};
 use crate::line_check;
 use crate::line_gen;
@@ -288,7 +291,7 @@ pub fn compare(trials: &str, seed: u64, count: u64, numbers: &[u8], shrinking: b
     let mut tally: std::collections::BTreeMap<(u8, String), u64> = Default::default();
     let (mut turns, mut loops) = (Turns::default(), LoopTally::default());
     let (mut made, mut typed) = (pattern_check::Tally::default(), line_check::Tally::default());
-    let mut reported = report_check::Tally::default();
+    let (mut reported, mut drawn) = (report_check::Tally::default(), aut_check::Tally::default());
     let (mut done, mut differences, mut told) = (0u64, 0u64, 0);
     while done < count {
         let n = BATCH.min(count - done);
@@ -310,6 +313,7 @@ pub fn compare(trials: &str, seed: u64, count: u64, numbers: &[u8], shrinking: b
             made.count(r);
             typed.count(r);
             reported.count(r);
+            drawn.count(r);
             let want = protocol::expected(r);
             let text = String::from_utf8_lossy(&want);
             loops.count(r, &text);
@@ -376,6 +380,9 @@ pub fn compare(trials: &str, seed: u64, count: u64, numbers: &[u8], shrinking: b
     if numbers.contains(&10) {
         println!("{reported}");
     }
+    if numbers.contains(&11) {
+        println!("{drawn}");
+    }
     println!("seed {seed}: {done} requests compared, {differences} differences, {:.1} s", begun.elapsed().as_secs_f64());
     i32::from(differences > 0)
 }
@@ -403,6 +410,9 @@ fn describe(trials: &str, r: &Request) {
         Request::Report { sheet, states, table_len, fill, out_len, out_fill } => {
             println!("    sheet {sheet:?}\n    states {states:?}");
             println!("    table of {table_len} bytes {fill}, output of {out_len} bytes {out_fill}")
+        }
+        Request::Aut { text, out_len, fill } => {
+            println!("    text {:?}\n    output of {out_len} bytes {fill}", String::from_utf8_lossy(text))
         }
     }
     println!("    oracle {}", clip(&protocol::answers(&b)));
@@ -763,6 +773,22 @@ fn candidates(r: &Request) -> Vec<Request> {
             for l in [0, reports::ROOM as u16 - 1, reports::ROOM as u16] {
                 if l < *out_len {
                     put(sheet, states, *table_len, l);
+                }
+            }
+            out
+        }
+        Request::Aut { text, out_len, fill } => {
+            let length = |text: &[u8]| aut::body(text).map_or(0, |body| body.len());
+            let was = length(text);
+            let mut out = Vec::new();
+            let mut put = |text: &[u8], out_len: u16| out.push(Request::Aut { text: text.to_vec(), out_len, fill: *fill });
+            for t in aut_gen::smaller(text).iter().chain(&smaller_bytes(text)) {
+                put(t, (*out_len as usize + length(t)).saturating_sub(was) as u16);
+                put(t, *out_len);
+            }
+            for l in [0, out_len / 2, out_len.saturating_sub(1)] {
+                if l < *out_len {
+                    put(text, l);
                 }
             }
             out

@@ -1,5 +1,6 @@
 //! Requests made from a seed: request number i of a seed is always the same.
 
+use crate::aut_gen;
 use crate::line_gen;
 use crate::oracle::{self, assemble};
 use crate::pattern_gen;
@@ -1039,6 +1040,7 @@ fn request(r: &mut Rng, numbers: &[u8]) -> Request {
         8 => Request::Children(if r.chance(50) { r.below(12) as u8 } else { r.byte() }),
         9 => line_gen::request(r),
         10 => report_gen::request(r),
+        11 => aut_gen::request(r),
         _ => {
             let mut b = bodies(r);
             if r.chance(1) {

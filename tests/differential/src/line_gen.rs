@@ -28,7 +28,7 @@ fn taste(r: &mut Rng, actions: u8) -> Taste {
 }
 
 /// A number that is not below A, or one that is taken for another where its value is not held whole.
-fn above(r: &mut Rng, actions: u8) -> String {
+pub fn above(r: &mut Rng, actions: u8) -> String {
     let a = u128::from(actions);
     let small = r.below(4) as u128;
     let n = match r.below(8) {

@@ -1,6 +1,6 @@
 //! The trial driver's protocol (TRIALS.md): requests from bytes, and the lines that answer each.
 
-use crate::{lines, oracle, patterns, reports};
+use crate::{aut, lines, oracle, patterns, reports};
 use std::io::Write;
 
 #[derive(Clone, PartialEq, Eq, Debug)]
@@ -15,6 +15,7 @@ pub enum Request {
     Children(u8),
     Line { actions: u8, line: Vec<u8>, out_len: u16, fill: u8 },
     Report { sheet: Vec<u8>, states: Vec<u8>, table_len: u16, fill: u8, out_len: u16, out_fill: u8 },
+    Aut { text: Vec<u8>, out_len: u16, fill: u8 },
 }
 
 fn blob(out: &mut Vec<u8>, b: &[u8]) {
@@ -35,6 +36,7 @@ impl Request {
             Request::Children(_) => 8,
             Request::Line { .. } => 9,
             Request::Report { .. } => 10,
+            Request::Aut { .. } => 11,
         }
     }
 
@@ -79,6 +81,11 @@ impl Request {
                 out.extend(out_len.to_le_bytes());
                 out.push(*out_fill);
             }
+            Request::Aut { text, out_len, fill } => {
+                blob(out, text);
+                out.extend(out_len.to_le_bytes());
+                out.push(*fill);
+            }
         }
     }
 }
@@ -95,6 +102,7 @@ pub enum View<'a> {
     Children(u8),
     Line { actions: u8, line: &'a [u8], out_len: usize, fill: u8 },
     Report { sheet: &'a [u8], states: &'a [u8], table_len: usize, fill: u8, out_len: usize, out_fill: u8 },
+    Aut { text: &'a [u8], out_len: usize, fill: u8 },
 }
 
 pub struct Input<'a> {
@@ -144,6 +152,7 @@ impl<'a> Input<'a> {
                 out_len: self.word()?,
                 out_fill: self.byte()?,
             },
+            11 => View::Aut { text: self.blob()?, out_len: self.word()?, fill: self.byte()? },
             _ => return None,
         })
     }
@@ -240,6 +249,16 @@ pub fn answer(request: &View, out: &mut Vec<u8>) {
             };
             let _ = writeln!(out, "report {n} {p} {len}");
             hex("table", &table, out);
+            hex("out", &buffer, out);
+            Ok(())
+        }
+        View::Aut { text, out_len, fill } => {
+            let mut buffer = vec![*fill; *out_len];
+            let ((n, p), len) = match aut::read(text, &mut buffer) {
+                Ok(len) => ((0, 0), len),
+                Err(r) => (r, 0),
+            };
+            let _ = writeln!(out, "aut {n} {p} {len}");
             hex("out", &buffer, out);
             Ok(())
         }

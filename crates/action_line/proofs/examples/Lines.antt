@@ -6,14 +6,15 @@ use native.Mathlib.Numerals.{add-one}
 use native.Mathlib.Omega.{arith}
 use lib.ListN.{replicate, replicate-append-replicate}
 use Rattle.text.specs.Comparing.{sameText}
+use Rattle.text.specs.Numerals.{one-digit, allDigits, decimalFrom}
 use Rattle.action_line.specs.Tokens as Tokens
-use Rattle.action_line.specs.Tokens.{Token, number, notWord, openParenthesis, closeParenthesis, notText, one-digit, Apart}
+use Rattle.action_line.specs.Tokens.{Token, number, notWord, openParenthesis, closeParenthesis, notText, Apart}
 use Rattle.action_line.specs.Tokens.{Spells, ends, space, opens, closes, word}
 use Rattle.action_line.specs.Grammar.{Tree, trueTree, actionTree, orTree, andTree, notTree}
 use Rattle.action_line.specs.Grammar.{factor, Derives, of-number, of-not, of-parentheses, of-factor, of-conjunction, Mentions, Reading}
 use Rattle.action_line.specs.Entries.{entryTotal, entriesFrom, bodyOf}
 use Rattle.action_line.specs.ParseCorrect.{KnownActions, RefusedWith, AcceptedWith}
-use Rattle.action_line.specs.Lexing.{allDigits, decimalFrom, tokenOf, lexAfter}
+use Rattle.action_line.specs.Lexing.{tokenOf, lexAfter}
 use Rattle.action_line.specs.Precedence.{reduce, run}
 use Rattle.action_line.specs.Reading.{scan, readable, readingOf}
 

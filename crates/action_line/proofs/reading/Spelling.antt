@@ -6,7 +6,8 @@ use mathlib.Core.List.{List, [], _∷_, _++_, append-assoc, append-nil}
 use lib.Dec.{eqb}
 use borrow.Author.Tests.{eqb-true}
 use Rattle.text.specs.Comparing.{sameText}
-use Rattle.action_line.specs.Tokens.{Token, openParenthesis, closeParenthesis, invalid, isDigit, isLetter, Apart, Spelling}
+use Rattle.text.specs.Numerals.{isDigit}
+use Rattle.action_line.specs.Tokens.{Token, openParenthesis, closeParenthesis, invalid, isLetter, Apart, Spelling}
 use Rattle.action_line.specs.Tokens.{Spells, ends, space, opens, closes, word}
 use Rattle.action_line.specs.Lexing.{tokenOf, ByteClass, classOf, wordBefore, lexByte, lexAfter, tokensOf}
 use Rattle.action_line.proofs.reading.Words.{picked, Valid, AllAlphanumeric}

@@ -9,10 +9,11 @@ use Rattle.text.proofs.Comparing.{same-exactly}
 use Rattle.sheet.specs.Bytes.{pick}
 use Rattle.sheet.proofs.checks.Checks.{and-parts}
 use Rattle.action_line.specs.Tokens.{Token, number, trueWord, falseWord, notWord, andWord, orWord, openParenthesis, closeParenthesis}
-use Rattle.action_line.specs.Tokens.{invalid, notText, andText, orText, isDigit, isLetter}
+use Rattle.text.specs.Numerals.{isDigit, allDigits, isDecimal}
+use Rattle.action_line.specs.Tokens.{invalid, notText, andText, orText, isLetter}
 use Rattle.action_line.specs.Tokens.{Spelling, spells-number, spells-true, spells-false, spells-not, spells-and, spells-or}
-use Rattle.action_line.specs.Lexing.{allDigits, isDecimal, tokenOf}
-use Rattle.action_line.proofs.reading.Decimals.{decimal-accepted, decimal-digits, decimal-value, accepted-decimal}
+use Rattle.action_line.specs.Lexing.{tokenOf}
+use Rattle.text.proofs.Numerals.{decimal-accepted, decimal-digits, decimal-value, accepted-decimal}
 
 -- what holds of both is so of the one picked
 pub picked : {A : Type 0} (P : A → Type 0) (b : Bool) {x y : A} → (b ≡ true → P x) → P y → P (pick b x y)

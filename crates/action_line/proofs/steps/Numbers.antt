@@ -11,8 +11,9 @@ use lib.ListN.{length, getD, drop, drop-of-length-le}
 use lib.Seq.{drop-cons}
 use borrow.Author.Tests.{lt-ltb, le-ltb}
 use Rattle.sheet.specs.Bytes.{pick}
-use Rattle.action_line.specs.Tokens.{number, isDigit}
-use Rattle.action_line.specs.Lexing.{allDigits, isDecimal, decimalFrom, tokenOf}
+use Rattle.text.specs.Numerals.{isDigit, allDigits, isDecimal, decimalFrom}
+use Rattle.action_line.specs.Tokens.{number}
+use Rattle.action_line.specs.Lexing.{tokenOf}
 use Rattle.action_line.specs.internal.Lexemes.{atMost, leadingZero, capped}
 
 -- ---- 255 for all that is larger

@@ -13,10 +13,11 @@ use Rattle.sheet.specs.Bytes.{pick}
 use Rattle.text.specs.Words.{boolText}
 use Rattle.text.specs.Comparing.{sameText}
 use Rattle.action_line.specs.Tokens.{Token, trueWord, falseWord, notWord, andWord, orWord, openParenthesis, closeParenthesis}
-use Rattle.action_line.specs.Tokens.{invalid, notText, andText, orText, isDigit, isLetter, Apart}
-use Rattle.action_line.specs.Lexing.{isDecimal, allDigits, tokenOf, wordBefore, lexAfter, tokensOf}
+use Rattle.text.specs.Numerals.{isDigit, isDecimal, allDigits}
+use Rattle.action_line.specs.Tokens.{invalid, notText, andText, orText, isLetter, Apart}
+use Rattle.action_line.specs.Lexing.{tokenOf, wordBefore, lexAfter, tokensOf}
 use Rattle.action_line.specs.internal.Lexemes.{wordAt, WordEnds}
-use Rattle.action_line.proofs.reading.Decimals.{digit-bounds}
+use Rattle.text.proofs.Numerals.{digit-bounds}
 use Rattle.action_line.proofs.reading.Spelling.{lex-apart}
 
 -- ---- where a word ends

@@ -18,7 +18,7 @@ use Rattle.sheet.specs.declared.Check.the-variants.{Passed}
 use Rattle.sheet.proofs.steps.Sizes.{plan-limits, plan-exact}
 use Rattle.sheet.proofs.checks.Checks.{and-parts, and-parts₃, either, right, passed-then, then-passed, passed-require, require-passed, none-found}
 
-before-iff : (f a t f′ a′ t′ : ℕ) → (before f a t f′ a′ t′ ≡ true) ↔ Before f a t f′ a′ t′
+pub before-iff : (f a t f′ a′ t′ : ℕ) → (before f a t f′ a′ t′ ≡ true) ↔ Before f a t f′ a′ t′
 before-iff f a t f′ a′ t′ = (to, from)
   where
     to : before f a t f′ a′ t′ ≡ true → Before f a t f′ a′ t′

@@ -5,10 +5,10 @@ use Prim.Native.Nat.{_+_, _-_, _*_, _≤_}
 use mathlib.Core.Path.{_≡_, refl, sym, ap, _∙_}
 use lib.ListN.{length, drop}
 use borrow.Author.Tests.{not-true, not-false}
-use Rattle.action_line.specs.Lexing.{allDigits, decimalFrom}
+use Rattle.text.specs.Numerals.{allDigits, decimalFrom}
 use Rattle.action_line.specs.internal.Lexemes.{atMost, capped}
 use Rattle.action_line.proofs.steps.Numbers.{at-most, digit-held, digit-next, no-digit, with-zero, with-letter, number-held}
-use Rattle.action_line.proofs.reading.Decimals.{digit-bounds}
+use Rattle.text.proofs.Numerals.{digit-bounds}
 use Rattle.action_line.proofs.steps.Words.{not-decimal}
 use Rattle.action_line.proofs.lexer.number.Statement.{statement}
 use Rattle.action_line.proofs.lexer.number.Tie as tie

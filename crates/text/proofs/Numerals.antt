@@ -1,23 +1,29 @@
--- Digits are the decimal of a number exactly where the test says so, and the number is the one worked out.
-use Prim.Native.Nat.{ℕ, _+_, _-_, _*_, _<_, _≤_}
-use mathlib.Core.Path.{_≡_, refl, sym, ap, subst, _∙_}
-use mathlib.Core.Bool.{true, not, false≢true}
+-- The digits of numbers of any size: exactly where the test says so, and the number is the one worked out; of 64 bits, as they are written.
+use Prim.Native.Nat.{ℕ, zero, suc, _+_, _-_, _*_, _/_, _%_, _^_, _<_, _≤_}
+use mathlib.Core.Path.{_≡_, refl, sym, ap, ap₂, subst, subst₂, _∙_}
+use mathlib.Core.Bool.{Bool, true, not, _&&_, false≢true, and-eq-true-iff}
 use mathlib.Core.List.{List, [], _∷_, _++_, append-assoc, append-nil}
 use mathlib.Core.Logic.{_≢_}
 use native.Mathlib.Omega.{arith}
+use native.Mathlib.Decide.{decLt}
 use lib.Dec.{eqb, leb}
 use borrow.Author.Tests.{leb-true, le-leb, eqb-false, ne-eqb, not-true}
-use Rattle.text.specs.Decimal.{digitOf}
-use Rattle.sheet.proofs.checks.Checks.{and-parts, all}
-use Rattle.action_line.specs.Tokens.{Decimal, one-digit, more-digits, isDigit}
-use Rattle.action_line.specs.Lexing.{allDigits, isDecimal, decimalFrom}
+use Rattle.text.specs.Decimal.{digitOf, decimalOf}
+use Rattle.text.specs.Numerals.{Decimal, one-digit, more-digits, isDigit, allDigits, isDecimal, decimalFrom, DecimalsAgree, DecimalsExactly}
+use Rattle.text.proofs.Decimal as written
+
+parts : (a b : Bool) → (a && b) ≡ true → (a ≡ true) × (b ≡ true)
+parts a b = and-eq-true-iff a b .0
+
+both : (a b : Bool) → a ≡ true → b ≡ true → (a && b) ≡ true
+both a b p q = and-eq-true-iff a b .1 (p, q)
 
 pub digit-accepted : (d : ℕ) → d < 10 → isDigit (digitOf d) ≡ true
 digit-accepted d h =
-    all (leb 48 (digitOf d)) (leb (digitOf d) 57) (le-leb 48 (digitOf d) (omega arith)) (le-leb (digitOf d) 57 (omega arith))
+    both (leb 48 (digitOf d)) (leb (digitOf d) 57) (le-leb 48 (digitOf d) (omega arith)) (le-leb (digitOf d) 57 (omega arith))
 
 pub digit-bounds : (b : ℕ) → isDigit b ≡ true → (48 ≤ b) × (b ≤ 57)
-digit-bounds b q = let k = and-parts (leb 48 b) (leb b 57) q in (leb-true 48 b (k .0), leb-true b 57 (k .1))
+digit-bounds b q = let k = parts (leb 48 b) (leb b 57) q in (leb-true 48 b (k .0), leb-true b 57 (k .1))
 
 -- ---- from a number's digits
 
@@ -25,11 +31,11 @@ digits-append : (ds es : List ℕ) → allDigits ds ≡ true → allDigits es �
 unfolding allDigits
 digits-append [] es p q = q
 digits-append (b ∷ ds) es p q =
-    let k = and-parts (isDigit b) (allDigits ds) p in all (isDigit b) (allDigits (ds ++ es)) (k .0) (digits-append ds es (k .1) q)
+    let k = parts (isDigit b) (allDigits ds) p in both (isDigit b) (allDigits (ds ++ es)) (k .0) (digits-append ds es (k .1) q)
 
 digits-one : (d : ℕ) → d < 10 → allDigits (digitOf d ∷ []) ≡ true
 unfolding allDigits
-digits-one d h = all (isDigit (digitOf d)) true (digit-accepted d h) refl
+digits-one d h = both (isDigit (digitOf d)) true (digit-accepted d h) refl
 
 pub decimal-digits : {ds : List ℕ} {n : ℕ} → Decimal ds n → allDigits ds ≡ true
 decimal-digits (one-digit d h) = digits-one d h
@@ -68,7 +74,7 @@ leading (more-digits {ds = ds} d r p h) q =
 -- digits with no zero in front
 positive-digits : (b : ℕ) (ds : List ℕ) → b ≢ 48 → allDigits (b ∷ ds) ≡ true → isDecimal (b ∷ ds) ≡ true
 unfolding allDigits
-positive-digits b [] p q = and-parts (isDigit b) true q .0
+positive-digits b [] p q = parts (isDigit b) true q .0
 positive-digits b (c ∷ ds) p q = rw (ne-eqb b 48 p) q
 
 pub decimal-accepted : {ds : List ℕ} {n : ℕ} → Decimal ds n → isDecimal ds ≡ true
@@ -100,7 +106,7 @@ next-digits : {ds : List ℕ} {n : ℕ} (es : List ℕ) → Decimal ds n → 1 �
 unfolding allDigits decimalFrom
 next-digits {ds} [] r p q = rw (append-nil ds) r
 next-digits {ds} (b ∷ es) r p q =
-    let k = and-parts (isDigit b) (allDigits es) q in
+    let k = parts (isDigit b) (allDigits es) q in
     rw (append-assoc ds (b ∷ []) es) at (next-digits es (next-digit b r p (k .0)) (omega arith) (k .1))
 
 pub accepted-decimal : (w : List ℕ) → isDecimal w ≡ true → Decimal w (decimalFrom 0 w)
@@ -108,8 +114,37 @@ unfolding allDigits decimalFrom
 accepted-decimal [] q = absurd (false≢true q)
 accepted-decimal (b ∷ []) q = first-digit b q
 accepted-decimal (b ∷ c ∷ ds) q =
-    let k = and-parts (not (eqb b 48)) (allDigits (b ∷ c ∷ ds)) q in
-    let digits = and-parts (isDigit b) (allDigits (c ∷ ds)) (k .1) in
+    let k = parts (not (eqb b 48)) (allDigits (b ∷ c ∷ ds)) q in
+    let digits = parts (isDigit b) (allDigits (c ∷ ds)) (k .1) in
     let positive = eqb-false b 48 (not-true (eqb b 48) (k .0)) in
     let bounds = digit-bounds b (digits .0) in
     next-digits (c ∷ ds) (first-digit b (digits .0)) (omega arith) (digits .1)
+
+pub decimals-exactly : DecimalsExactly
+decimals-exactly ds n =
+    (λ r. (decimal-accepted r, decimal-value r), λ k. subst (Decimal ds) (k .1) (accepted-decimal ds (k .0)))
+
+-- ---- as they are written
+
+-- at most k, so that the recursion ends
+by-digits : (k n : ℕ) → n ≤ k → n < 2 ^ 64 → Decimal (decimalOf n) n
+by-digits zero n l h = subst (λ (ds : List ℕ). Decimal ds n) (sym (written.one-digit n (omega arith))) (one-digit n (omega arith))
+by-digits (suc k) n l h =
+    elim (decLt n 10) [
+      | yes less ↦ subst (λ (ds : List ℕ). Decimal ds n) (sym (written.one-digit n less)) (one-digit n less)
+      | no more ↦
+          let r = by-digits k (n / 10) (omega arith) (omega arith) in
+          let m : 10 * (n / 10) + n % 10 ≡ n = omega arith in
+          subst₂ Decimal (sym (written.last-digit n (omega arith) h)) m (more-digits (n % 10) r (omega arith) (omega arith))
+    ]
+
+read-back : {ds : List ℕ} {n : ℕ} → Decimal ds n → n < 2 ^ 64 → ds ≡ decimalOf n
+read-back (one-digit d l) h = sym (written.one-digit d l)
+read-back (more-digits {ds = ds} {n = n} d r p l) h =
+    let q : (10 * n + d) / 10 ≡ n = omega arith in
+    let m : (10 * n + d) % 10 ≡ d = omega arith in
+    ap₂ (λ (es : List ℕ) (e : ℕ). es ++ digitOf e ∷ []) (read-back r (omega arith) ∙ ap decimalOf (sym q)) (sym m)
+    ∙ sym (written.last-digit (10 * n + d) (omega arith) h)
+
+pub decimals-agree : DecimalsAgree
+decimals-agree n h ds = (λ r. read-back r h, λ q. subst (λ (es : List ℕ). Decimal es n) (sym q) (by-digits n n (omega arith) h))

@@ -1,0 +1,4 @@
+pub mod Labels
+pub mod Different
+pub mod Transitions
+pub mod Body

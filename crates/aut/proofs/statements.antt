@@ -1,0 +1,3 @@
+pub mod Answers
+pub mod ConversionCorrect
+pub mod TextsToTry

@@ -1,0 +1,12 @@
+pub mod Places
+pub mod Digits
+pub mod HeldLabels
+pub mod HeldKeys
+pub mod KeyOrder
+pub mod Lines
+pub mod Adding
+pub mod Passing
+pub mod FirstLines
+pub mod Writing
+pub mod Checking
+pub mod Answering
