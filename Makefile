@@ -4,11 +4,12 @@ DRIVER := target/bin/trials
 PROGRAM := target/bin/plan_judge
 REPORTER := target/bin/counter_report
 SHEET := target/made.sheet
+NEW := target/branched.sheet
 STORED := target/stored
 DIFFERENTIAL := cd tests/differential && cargo run --release --offline --quiet --
 
-.PHONY: gate check examples reports sheet trials store runs lines long texts count differential \
-	memory benchmark help
+.PHONY: gate check examples reports sheet branch trials store runs lines long texts count \
+	differential memory benchmark help
 
 gate: ## prove all from nothing, try the must-fail edits, run the programs (rt ci)
 	.ci/run
@@ -16,10 +17,11 @@ gate: ## prove all from nothing, try the must-fail edits, run the programs (rt c
 check: ## prove what changed since the last check, and run the programs that did
 	rt check
 
-examples: ## judge the sheets of examples/ and others, make some from texts, and compare
+examples: ## judge the sheets of examples/ and others, make some anew, and compare
 	rt check plan_judge trials
 	python3 tests/sheets.py check examples $(PROGRAM)
 	python3 tests/sheets.py texts examples $(DRIVER)
+	python3 tests/sheets.py branches examples $(DRIVER)
 
 reports: ## print reports on about a thousand inputs, and compare with what is right
 	rt check counter_report
@@ -28,6 +30,10 @@ reports: ## print reports on about a thousand inputs, and compare with what is r
 sheet: ## write SHEET from the .aut file AUT and typed bodies, ACTIONS='..' RULE='..'
 	rt check trials
 	python3 tests/aut_sheet.py '$(AUT)' '$(ACTIONS)' '$(RULE)' '$(SHEET)'
+
+branch: ## write NEW, the sheet OLD with one more transition, FROM=0 ACTION=2 TO=2
+	rt check trials
+	python3 tests/branch_sheet.py '$(OLD)' '$(FROM)' '$(ACTION)' '$(TO)' '$(NEW)'
 
 trials: ## say whether the stored trials are what tests/cases.py makes
 	mkdir -p $(STORED)

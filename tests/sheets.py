@@ -9,6 +9,9 @@
     sheets.py texts DIR DRIVER     makes each sheet of DIR that has an .aut text anew from it, by
                                    tests/aut_sheet.py and the trial driver DRIVER, and compares with
                                    the sheet; then others, and refused ones
+    sheets.py branches DIR DRIVER  makes the sheet of DIR that has a branch anew, by
+                                   tests/branch_sheet.py and the trial driver DRIVER, and compares
+                                   with the sheet; then others, and refused ones
     sheets.py deepest FILE         the sheet on which a query nests deepest
 """
 import re
@@ -19,12 +22,13 @@ import textwrap
 from pathlib import Path
 
 from inputs.aut_parts import text
-from inputs.examples import COUNTER, CUT, KEY, LOOP_AHEAD, SPARE, WORN_KEPT
+from inputs.examples import COUNTER, CUT, KEY, KEY_BRANCH, LOOP_AHEAD, SPARE, WORN_KEPT
 from inputs.parts import (
     GREATEST_X, K, K8, K_ACTIONS, K_PLAN, K_RULE, LEAST, LEAST_LOOP, LEAST_X, LONG, deepest, plan,
     refusals, rule, table)
 from native import HERE
 from oracle.aut import read_text
+from oracle.branches import branched, propose
 from oracle.program import line_of, lines_of
 from oracle.sheet import bodies_at, read_sheet, sheet_of, triples, word
 
@@ -151,6 +155,9 @@ def check(folder, program):
     return min(wrong, 1)
 
 
+TOO_LONG = 'a request of the trial driver has room for 65,535 bytes'
+
+
 def typed(body):
     return ','.join(map(str, body))
 
@@ -183,7 +190,7 @@ def from_texts(folder):
     for other, line in (('', 'refused 8 0'), ('2 3,1,2 1,0,0', 'refused 9 0'),
                         ('1 6,0,0', 'refused 10 0'), ('one', 'one is no byte')):
         yield given, actions, other, line
-    yield b'(' * 65536, actions, nodes, 'a request of the trial driver has room for 65,535 bytes'
+    yield b'(' * 65536, actions, nodes, TOO_LONG
 
 
 def texts(folder, driver):
@@ -209,9 +216,61 @@ def texts(folder, driver):
     return min(wrong, 1)
 
 
+def to_branch(folder):
+    """sheets and branches as they are typed; the new sheet of each, or what is said of it"""
+    sheet = Path(folder, KEY['name'] + '.sheet').read_bytes()
+    new = Path(folder, KEY_BRANCH['name'] + '.sheet').read_bytes()
+    yield sheet, [*map(str, KEY_BRANCH['branch'])], new
+    yield sheet, ['000', '2', ' 2'], new
+    # the command of the page
+    found = re.search(r'branch_sheet.py (\S+) (\S+) (\S+) (\S+) new.sheet',
+                      (HERE / 'docs/BRANCHES.md').read_text())
+    yield (HERE / found[1]).read_bytes(), [*found.groups()[1:]], new
+    # one more, and one at either end
+    for s, branch in ((new, (0, 0, 2)), (sheet, (0, 0, 1)), (sheet, (1, 1, 2)),
+                      (sheet_of(*SPARE['bodies']), (8, 5, 8)),
+                      (sheet_of(plan(2, 255, []), *LEAST[1:]), (0, 254, 1))):
+        yield s, [*map(str, branch)], branched(s, branch)[0]
+    for branch, line in (('0 1 1', 'refused 40 0'), ('3 0 0', 'refused 40 0'),
+                         ('2 0 0', 'refused 12 0'), ('0 256 0', '256 is no byte'),
+                         ('0 0 one', 'one is no byte'), ('-1 0 0', '-1 is no byte')):
+        yield sheet, branch.split(), line
+    yield sheet, ['0', '', '0'], 'nothing is no byte'
+    yield sheet, ['0', '1 2', '0'], '1 2 is no byte'
+    yield new[:-1], ['0', '0', '2'], 'refused 3 0'
+    yield sheet_of(*LONG), ['0', '0', '0'], 'refused 40 0'
+    yield b'(' * 65536, ['0', '0', '1'], TOO_LONG
+
+
+def branches(folder, driver):
+    wrong = 0
+    command = [sys.executable, str(HERE / 'tests/branch_sheet.py'), '--driver', driver]
+    with tempfile.TemporaryDirectory() as made:
+        for i, (given, branch, wanted) in enumerate(to_branch(folder)):
+            old, new = Path(made, '%d.old' % i), Path(made, '%d.new' % i)
+            old.write_bytes(given)
+            words = [*command, str(old), *branch]
+            one = subprocess.run(words, capture_output=True)
+            two = subprocess.run([*words, str(new)], capture_output=True)
+            held = new.read_bytes() if new.exists() else b''
+            found = one.stdout, one.stderr, two.stdout, two.stderr, held, two.returncode
+            if isinstance(wanted, bytes):
+                proposal = propose(given, tuple(map(int, branch)))
+                line = b'proposal %d %d %d\n' % proposal
+                said, right = 'a sheet of %d bytes' % len(wanted), (line, b'', line, b'', wanted, 0)
+            else:
+                line = wanted.encode() + b'\n'
+                said, right = wanted, (b'', line, b'', line, b'', 1)
+            good = found == right and old.read_bytes() == given
+            wrong += not good
+            print('branch %d:' % i, said if good else '%s and not %s' % (found, right))
+    print('all as expected' if wrong == 0 else '%d wrong' % wrong)
+    return min(wrong, 1)
+
+
 def main(args):
     if args[:1] == ['write'] and len(args) == 2:
-        for example in (KEY, CUT, SPARE):
+        for example in (KEY, KEY_BRANCH, CUT, SPARE):
             sheet = sheet_of(*example['bodies'])
             Path(args[1], example['name'] + '.sheet').write_bytes(sheet)
             Path(args[1], example['name'] + '.txt').write_text(page(example))
@@ -224,6 +283,8 @@ def main(args):
         return check(*args[1:])
     if args[:1] == ['texts'] and len(args) == 3:
         return texts(*args[1:])
+    if args[:1] == ['branches'] and len(args) == 3:
+        return branches(*args[1:])
     if args[:1] == ['deepest'] and len(args) == 2:
         Path(args[1]).write_bytes(deepest())
         return 0

@@ -1,14 +1,15 @@
 """Bodies, sheets and requests made at random."""
 from inputs.parts import counted, plan, rule, table
 from oracle.aut import aut_body
+from oracle.branches import propose
 from oracle.lines import line_body
 from oracle.patterns import translate
 from oracle.protocol import (
-    aut_request, guard_request, line_request, list_request, pattern_request, query_request,
-    read_request, reference_request, report_request, write_request)
+    aut_request, commit_request, guard_request, line_request, list_request, pattern_request,
+    propose_request, query_request, read_request, reference_request, report_request, write_request)
 from oracle.reports import ROOM
 from oracle.rows import Sheet
-from oracle.sheet import Refused, accepted, sheet_of
+from oracle.sheet import Refused, accepted, bodies_at, read_sheet, sheet_of, triples
 
 
 def random_transitions(rng, states, count):
@@ -299,3 +300,47 @@ def random_conversion(rng, lines=(0, 1, 2, 3, 5, 9)):
         size = rng.randrange(8)
     yield aut_request(text, max(0, size + rng.choice((0, 0, 0, 1, 5, -1, -20))),
                       rng.randrange(256))
+
+
+def random_transition(rng, s):
+    """about the sheet's transitions and numbers; now and then one that it has, or out of range"""
+    try:
+        p = bodies_at(s, read_sheet(s))[0]
+    except Refused:
+        return tuple(rng.randrange(4) for _ in range(3))
+    below = p[0], p[1], p[0]
+    if rng.random() < 0.05:
+        return tuple(rng.choice((n, n - 1, rng.randrange(256))) for n in below)
+    near = [rng.choice(triples(p, 4) or [(0, 0, 0)]) for _ in below]
+    return tuple(near[i][i] if rng.random() < 0.4 else rng.randrange(n)
+                 for i, n in enumerate(below))
+
+
+def random_proposal(rng, fresh):
+    """the fresh one, or one with a part off"""
+    proposal = list(fresh)
+    if rng.random() < 0.25:
+        part = rng.randrange(3)
+        off = rng.choice((1, -1, 256, rng.randrange(1 << 16)))
+        proposal[part] = proposal[part] + off & (0xffff, 0xffff, 0xffffffff)[part]
+    return tuple(proposal)
+
+
+def random_branch(rng, most=(1, 3, 8)):
+    """proposed and committed, on a sheet that is nearly always whole; more often than not one of
+    some that is accepted"""
+    s = random_sheet(rng, most)
+    if rng.random() < 0.05:
+        s = damaged(rng, s)
+    fresh = 0, len(s) + 3, rng.randrange(1 << 32)
+    for _ in range(rng.choice((1, 2, 6))):
+        branch = random_transition(rng, s)
+        try:
+            fresh = propose(s, branch)
+            break
+        except Refused:
+            pass
+    yield propose_request(s, branch)
+    yield commit_request(s, branch, random_proposal(rng, fresh),
+                         max(0, len(s) + 3 + rng.choice((0, 0, 0, 1, 9, -1, -20))),
+                         rng.randrange(256))

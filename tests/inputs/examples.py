@@ -2,6 +2,7 @@
 pages say of them."""
 from inputs.aut_parts import text
 from inputs.parts import F, K, K_ACTIONS, K_PLAN, K_RULE, T, plan, rule, table
+from oracle.branches import tag_of
 from oracle.program import line_of
 from oracle.sheet import sheet_of
 
@@ -18,6 +19,18 @@ KEY = {
             '"some" or "every" between, so the rule is not guarded.',
     'entries': ['action 0', 'action 1', 'action 2'],
     'bodies': (K_PLAN, K_ACTIONS, K_RULE),
+}
+
+# K with one more transition
+KEY_BRANCH = {
+    **KEY,
+    'name': 'key-branch',
+    'title': 'K, the sheet of key.txt, with a parked branch: one transition more, proposed and '
+             'then added.',
+    'plan': 'As in key.txt, and action 2 leads from state 0 to state 2.',
+    'rule': 'In words: as in key.txt. From state 0 action 2 can be done at once.',
+    'branch': (0, 2, 2),
+    'bodies': (plan(3, 3, [(0, 1, 1), (0, 2, 2), (1, 2, 2)]), K_ACTIONS, K_RULE),
 }
 
 CUT_TRANSITIONS = [(0, 0, 1), (1, 1, 2), (1, 2, 3), (2, 3, 4), (3, 5, 6), (4, 4, 5), (5, 5, 6)]
@@ -72,6 +85,13 @@ CUT['of the text'] = (
     'It becomes the 25 bytes of the plan. Labels get action numbers in the order in which they '
     'first stand; with the line of state 3 before that of state 4, "release" would be action 4 and '
     '"deburr" 5. The transitions are put in order. docs/AUT.md says how to make the sheet of it.')
+KEY_BRANCH['also'] = (
+    'The branch 0,2,2, proposed for key.sheet, gets place 1, behind 0,1,1; the new sheet has 77 '
+    'bytes, and the tag of key.sheet is %d. Committed with these three numbers, the branch gives '
+    'the sheet above. It has a new transition, and its number of transitions, the length of its '
+    'plan and the two offsets behind that are others; all other bytes are those of key.sheet. The '
+    'branch 2,0,0, which leads back to state 0, is refused with 12, and 0,1,1, which is there '
+    'already, with 40.' % tag_of(K))
 CUT['also'] = ('Without the transition 3,5,6 the worn blank stays in the clamp for good, and '
                'plan_judge prints `%s`.' % line_of(WORN_KEPT))
 SPARE['also'] = ('The loop can\'t be reached from state 0, so plan_judge judges as it does for '

@@ -6,8 +6,11 @@ from inputs.aut_page import auts_to_try
 from inputs.aut_parts import text
 from inputs.auts import auts, read_plans
 from inputs.bodies import reading_and_writing
+from inputs.branch_limits import longest_branches
+from inputs.branch_parts import likely, small
+from inputs.branches import branches, branches_to_try
 from inputs.chance import (
-    random_conversion, random_judging, random_list, random_reading, random_report,
+    random_branch, random_conversion, random_judging, random_list, random_reading, random_report,
     random_translation, random_typing)
 from inputs.counts import counts_to_try
 from inputs.judging import judgings
@@ -23,9 +26,11 @@ from inputs.patterns import judged_translations, patterns
 from inputs.reports import reports, reports_to_try
 from inputs.rules import children_to_try
 from inputs.to_try import to_try
+from oracle.branches import tag_of
 from oracle.protocol import (
-    answers, aut_request, guard_request, line_request, list_request, pattern_request,
-    query_request, read_request, reference_request, report_request, write_request)
+    answers, aut_request, commit_request, guard_request, line_request, list_request,
+    pattern_request, propose_request, query_request, read_request, reference_request,
+    report_request, write_request)
 from oracle.reports import ROOM
 from oracle.sheet import sheet_of, triples
 
@@ -49,6 +54,8 @@ def stored():
     yield from reports()
     yield from expected(*auts_to_try(), *read_plans())
     yield from auts()
+    yield from expected(*branches_to_try())
+    yield from branches()
 
 
 # an unknown request ends the run: what follows it gives nothing
@@ -123,3 +130,16 @@ def large():
     yield aut_request(text(2, (0, b'a', 1)), 65535, 222)
     for _ in range(4000):
         yield from random_conversion(rng, (0, 1, 2, 5, 9, 40, 300))
+    yield propose_request(full, b'\3\3\3')
+    yield commit_request(full, b'\3\3\3', (771, 771, 50529027), 65535, 223)
+    yield commit_request(K, (0, 2, 2), (1, 77, tag_of(K)), 65535, 224)
+    yield from expected(*longest_branches())
+    # each plan of three states and one action with each branch
+    pairs = [(k // 3, 0, k % 3) for k in range(9)]
+    for chosen in range(512):
+        s = small(3, 1, [t for k, t in enumerate(pairs) if chosen >> k & 1])
+        for branch in pairs:
+            yield propose_request(s, branch)
+            yield commit_request(s, branch, likely(s, branch), len(s) + 3, chosen % 256)
+    for _ in range(4000):
+        yield from random_branch(rng, (1, 3, 8, 16, 40, 64))

@@ -1,10 +1,11 @@
 """The trial driver's protocol (docs/TRIALS.md): requests as bytes, and the lines they give."""
 from oracle.aut import aut_body
+from oracle.branches import commit, propose
 from oracle.lines import line_body
 from oracle.patterns import translate
 from oracle.reports import report
 from oracle.rows import clear, query
-from oracle.sheet import Refused, children, read_sheet, two, word, write_sheet
+from oracle.sheet import Refused, children, four, read_sheet, two, word, write_sheet
 from oracle.table1 import guarded, reference
 
 
@@ -55,6 +56,16 @@ def report_request(s, states, size, fill, room, other):
 
 def aut_request(text, size, fill):
     return b'\x0b' + blob_of(text) + two(size) + bytes([fill])
+
+
+def propose_request(s, branch):
+    return b'\x0c' + blob_of(s) + bytes(branch)
+
+
+def commit_request(s, branch, proposal, size, fill):
+    place, length, tag = proposal
+    return (b'\x0d' + blob_of(s) + bytes(branch) + two(place) + two(length) + four(tag)
+            + two(size) + bytes([fill]))
 
 
 def yes(b):
@@ -111,6 +122,13 @@ class Stream:
 
     def blob(self):
         return self.take(self.word())
+
+    def branch(self):
+        """from, action and to"""
+        return tuple(self.take(3))
+
+    def proposal(self):
+        return self.word(), self.word(), int.from_bytes(self.take(4), 'little')
 
     def buffer(self):
         """a length and a fill byte"""
@@ -178,9 +196,21 @@ def answer_aut(stream):
     return text + 'out %s\n' % out.hex()
 
 
+def answer_propose(stream):
+    sheet, branch = stream.blob(), stream.branch()
+    return reported('propose', lambda: propose(sheet, branch), 0, 0, 0)
+
+
+def answer_commit(stream):
+    sheet, branch = stream.blob(), stream.branch()
+    proposal, out = stream.proposal(), stream.buffer()
+    text = reported('commit', lambda: written(commit(sheet, branch, proposal, len(out)), out), 0)
+    return text + 'out %s\n' % out.hex()
+
+
 ANSWERS = {1: answer_read, 2: answer_guard, 3: answer_reference, 4: answer_list, 5: answer_query,
            6: answer_write, 7: answer_pattern, 8: answer_children, 9: answer_line,
-           10: answer_report, 11: answer_aut}
+           10: answer_report, 11: answer_aut, 12: answer_propose, 13: answer_commit}
 
 
 def answered(given):

@@ -10,5 +10,7 @@ pub mod roundtrip
 pub mod limits
 -- the plan as a labelled transition system
 pub mod TransitionSystem
+-- the order of its transitions
+pub mod TransitionOrder
 -- what the steps of the code show
 pub mod steps

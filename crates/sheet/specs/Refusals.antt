@@ -34,7 +34,7 @@ numberOf (BindingFault n) = 10
 -- "11: queried state not below S."
 numberOf NoSuchState = 11
 -- document 01: "12: the plan has a loop (query only)."; since document 02 (b): "12 exactly when a loop can be reached from the queried
--- state"
+-- state"; document 02 (i): "A loop then reachable from state 0 falls under 12 in both calls", propose and commit
 numberOf Loop = 12
 -- "13: S over 64 (reference only)."
 numberOf TooManyStates = 13

@@ -1,8 +1,9 @@
 -- Document 01, "Kind 1, plan", as what the meaning of a rule speaks of: a labelled transition system, with states, actions and transitions
 -- between states, each by an action. Document 000's initial state is left out, and "States that nothing leads to are allowed".
 use Prim.Native.Nat.{ℕ, zero, suc, _<_}
+use mathlib.Core.Bool.{Bool}
 use mathlib.Core.List.{List, [], _∷_, List·Memᴰ}
-use Rattle.sheet.specs.Plan.{stateCount, actionCount, transitionCount, origin, label, target}
+use Rattle.sheet.specs.Plan.{stateCount, actionCount, transitionCount, origin, label, target, before}
 use Rattle.sheet.specs.WellFormed.{WellFormedPlan}
 
 -- "from, action, to"
@@ -10,6 +11,10 @@ pub record LabelledTransition : Type 0 where
   pub origin : ℕ
   pub action : ℕ
   pub target : ℕ
+
+-- t comes before u "by (from, action, to)"
+abbrev pub precedes : LabelledTransition → LabelledTransition → Bool
+precedes t u = before (t .origin) (t .action) (t .target) (u .origin) (u .action) (u .target)
 
 -- S, A and the transitions, in plan order
 pub record Plan : Type 0 where

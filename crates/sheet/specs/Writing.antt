@@ -12,7 +12,7 @@ use Rattle.sheet.specs.declared.Check.the-variants.{Passed, Failed}
 use Rattle.sheet.specs.declared.Written.{Written}
 use Rattle.sheet.specs.declared.Written.the-variants.{Wrote, Refused}
 
--- a number below 65,536 as two bytes, "the low byte first"
+-- a number below 65,536 as two bytes, "the low byte first"; of a larger one its remainder by 65,536
 abbrev pub twoBytes : ℕ → List ℕ → List ℕ
 twoBytes n rest = n % 256 ∷ n / 256 % 256 ∷ rest
 

@@ -5,7 +5,7 @@ use crate::Refusal;
 use crate::Written;
 use crate::body_check::check_bodies;
 ghost use mathlib.Core.Path.{_≡_};
-ghost use Prim.Native.Nat.{_+_, _≤_, _<_};
+ghost use Prim.Native.Nat.{_+_, _≤_};
 ghost use mathlib.Core.List.{_++_};
 ghost use lib.ListN.{length, drop};
 ghost use lib.Seq.{paste};
@@ -13,11 +13,13 @@ ghost use Rattle.sheet.specs.Writing.{head, sheetOf, sheetLength};
 ghost use Rattle.sheet.specs.RunningCalls.{Writes};
 ghost use Rattle.sheet.specs.internal.Room.{Room};
 
-// The first 17 bytes of a sheet whose bodies have these lengths.
-fn head_of(p: usize, a: usize, r: usize) -> [u8; 17]
-    requires { ⌜ (p < 65536) × ((a < 65536) × (r < 65536)) ⌝ }
-    ensures { λ h. ⌜ h ≡ head p a r ⌝ }
+// The first 17 bytes of a sheet whose bodies have these lengths. An offset is written modulo 65,536; in a sheet none is so large.
+pub fn head_of(plan: u16, actions: u16, rule: u16) -> [u8; 17]
+    ensures { λ h. ⌜ h ≡ head plan actions rule ⌝ }
 {
+    let p = plan as usize;
+    let a = actions as usize;
+    let r = rule as usize;
     let second = HEAD_LENGTH + p;
     let third = HEAD_LENGTH + p + a;
     [
@@ -54,7 +56,7 @@ fn put_sheet(p: &[u8], a: &[u8], r: &[u8], out: &mut [u8])
     requires { ⌜ Room (now p) (now a) (now r) (now out) ⌝ }
     ensures { λ _. ⌜ now (out .exit) ≡ sheetOf (now (p .entry)) (now (a .entry)) (now (r .entry)) ++ drop (sheetLength (now (p .entry)) (now (a .entry)) (now (r .entry))) (now (out .entry)) ⌝ }
 {
-    let head = head_of(p.len(), a.len(), r.len());
+    let head = head_of(p.len() as u16, a.len() as u16, r.len() as u16);
     copy_at(out, 0, &head);
     copy_at(out, HEAD_LENGTH, p);
     copy_at(out, HEAD_LENGTH + p.len(), a);

@@ -1,4 +1,5 @@
 // The trial driver: reads requests from standard input until it ends, and writes the result of each as text.
+mod branch;
 mod children;
 mod convert;
 mod guard;
@@ -37,6 +38,8 @@ fn answer(
         9 => line::answer(first, second),
         10 => reports::answer(first, second, third, fourth),
         11 => convert::answer(first, second),
+        12 => branch::answer_propose(first),
+        13 => branch::answer_commit(first, second),
         _ => false,
     }
 }

@@ -2,6 +2,8 @@
 
 use crate::aut;
 use crate::aut_gen::{self, Line};
+use crate::branch_gen;
+use crate::branches::{self, Branch};
 use crate::compare::drive;
 use crate::gen::{self, Loops, Parts, Rng, Size};
 use crate::line_gen;
@@ -11,6 +13,7 @@ use crate::pattern_gen;
 use crate::patterns;
 use crate::protocol::Request;
 use crate::reports::{MOST, ROOM};
+use std::collections::BTreeSet;
 use std::fmt::Write as _;
 use std::ops::Range;
 use std::path::{Path, PathBuf};
@@ -20,6 +23,8 @@ use std::time::Instant;
 const SEED: u64 = 20_261_115;
 const SHEETS: usize = 4;
 const SIZES: [(usize, usize); 5] = [(8, 1), (16, 2), (32, 3), (64, 4), (128, 6)];
+/// K's states and binders.
+const K_SIZE: [(usize, usize); 1] = [(3, 2)];
 
 /// A plan of `n` states, each with 16 transitions of 4 actions to the next 8 states (fewer near the end).
 fn plan(r: &mut Rng, n: usize, back: bool) -> Vec<[u8; 3]> {
@@ -202,6 +207,68 @@ fn drawing(made: Vec<Vec<u8>>) -> Vec<Request> {
     made.into_iter().map(|text| Request::Aut { text, out_len: aut::ROOM as u16, fill: 7 }).collect()
 }
 
+/// A sheet of n states, 2 n - 1 actions, n / 4 action entries and n / 2 nodes, and three branches for it: before all its 16 n - 1
+/// transitions, among them and behind them. They all lead onward, to one of the next 8 states, and each state leads to the next.
+fn branchable(n: usize, binders: usize, index: u64) -> (Vec<u8>, [Branch; 3]) {
+    let mut r = Rng::new(SEED, 4_000_000 + 1000 * n as u64 + index);
+    let (nodes, actions) = (n / 2, 2 * n - 1);
+    let (last, most) = (n as u8 - 1, actions as u8 - 1);
+    let branches = [[0, 0, 1], [last / 2, most / 2, last / 2 + 1], [last - 1, most, last]];
+    let z = Size { states: n, actions, transitions: 0, entries: n / 4, nodes, binders, loops: Loops::Nowhere, guarded: false };
+    loop {
+        let p: Parts = gen::valid(&mut r, z);
+        if p.nodes.iter().filter(|x| x[0] >= 7).count() != binders || p.nodes.len() != nodes {
+            continue;
+        }
+        let mut found: BTreeSet<Branch> = (0..last).map(|s| [s, 1 + r.below(actions - 2) as u8, s + 1]).collect();
+        while found.len() < 16 * n - 1 {
+            let from = r.below(n - 1);
+            let to = r.range(from + 1, (from + 8).min(n - 1));
+            found.insert([from as u8, r.below(actions) as u8, to as u8]);
+            branches.iter().for_each(|branch| {
+                found.remove(branch);
+            });
+        }
+        return (Parts { transitions: found.into_iter().collect(), ..p }.sheet(), branches);
+    }
+}
+
+/// The key sheet, and a branch for it.
+fn key() -> (Vec<u8>, Branch) {
+    let plan = [3, 3, 2, 0, 0, 1, 1, 1, 2, 2];
+    let entries = [3, 2, 0, 0, 2, 1, 0, 2, 2, 0];
+    let nodes = [
+        [7, 0, 1], [2, 2, 4], [4, 2, 3], [1, 0, 0], [2, 5, 7], [4, 0, 6],
+        [6, 0, 0], [7, 1, 8], [2, 9, 10], [6, 0, 0], [4, 1, 11], [6, 1, 0],
+    ];
+    (oracle::assemble(&plan, &entries, &gen::list_body(&nodes)), [0, 2, 2])
+}
+
+/// The request for a branch, and the same with a sheet of no bytes.
+fn parking(name: &str, n: usize, binders: usize, index: u64) -> (Request, Request) {
+    let (sheet, branch) = match name {
+        PROPOSE_K | COMMIT_K => key(),
+        _ => {
+            let (sheet, [front, middle, end]) = branchable(n, binders, index);
+            let branch = match name {
+                PROPOSE => middle,
+                PROPOSE_LOOP => [n as u8 - 1, 0, 0],
+                COMMIT_FRONT => front,
+                _ => end,
+            };
+            (sheet, branch)
+        }
+    };
+    let right = if name == PROPOSE_LOOP { Err((12, 0)) } else { Ok(branch_gen::likely(&sheet, branch)) };
+    assert_eq!(branches::propose(&sheet, branch), right, "{name}, n = {n}");
+    if [PROPOSE, PROPOSE_LOOP, PROPOSE_K].contains(&name) {
+        return (Request::Propose { sheet, branch }, Request::Propose { sheet: vec![], branch });
+    }
+    let (proposal, out_len) = (branch_gen::likely(&sheet, branch), sheet.len() as u16 + 3);
+    let request = |sheet: Vec<u8>| Request::Commit { sheet, branch, proposal, out_len, fill: 7 };
+    (request(sheet), request(vec![]))
+}
+
 struct Program {
     path: String,
     args: Vec<String>,
@@ -277,9 +344,15 @@ const AUT_EQUAL: &str = "reading equal .aut lines";
 const AUT_LONG_LABEL: &str = "reading a long .aut label";
 const AUT_LONG_LABELS: &str = "reading long .aut labels";
 const AUT_LONG_NUMBER: &str = "refusing a long .aut number";
+const PROPOSE: &str = "proposing a branch";
+const PROPOSE_LOOP: &str = "refusing a branch back to the start";
+const COMMIT_FRONT: &str = "adding a branch in front";
+const COMMIT_END: &str = "adding a branch at the end";
+const PROPOSE_K: &str = "proposing a branch for K";
+const COMMIT_K: &str = "adding a branch to K";
 
 /// Each with its request.
-const OPS: [(&str, u8); 21] = [
+const OPS: [(&str, u8); 27] = [
     (READING, 1),
     (REFERENCE, 3),
     (FIRST_QUERY, 4),
@@ -301,12 +374,19 @@ const OPS: [(&str, u8); 21] = [
     (AUT_LONG_LABEL, 11),
     (AUT_LONG_LABELS, 11),
     (AUT_LONG_NUMBER, 11),
+    (PROPOSE, 12),
+    (PROPOSE_LOOP, 12),
+    (COMMIT_FRONT, 13),
+    (COMMIT_END, 13),
+    (PROPOSE_K, 12),
+    (COMMIT_K, 13),
 ];
 
-/// The plots, each with what it shows and its calls.
-const PLOTS: [(&str, &str, Range<usize>); 2] = [
+/// The plots, each with what it shows and its calls. What is measured for K has one size and no plot.
+const PLOTS: [(&str, &str, Range<usize>); 3] = [
     ("benchmark.svg", "Instructions for one request, and their ratio, by n", 0..12),
-    ("benchmark-aut.svg", "The same for .aut texts", 12..OPS.len()),
+    ("benchmark-aut.svg", "The same for .aut texts", 12..21),
+    ("benchmark-branches.svg", "The same for branches", 21..25),
 ];
 
 fn stream(requests: &[Request], times: usize) -> Vec<u8> {
@@ -360,7 +440,7 @@ pub fn bench(trials: &str, numbers: &[u8], out: &str) -> i32 {
         p
     };
     // the kinds of request that the driver answers
-    let tried = |k: u8| [&[k][..], &[0; 10]].concat();
+    let tried = |k: u8| [&[k][..], &[0; 20]].concat();
     let has = |k: u8| numbers.contains(&k) && drive(&trials, &tried(k), 20).is_ok_and(|o| !o.0.is_empty());
 
     let empty = store("empty", &[]);
@@ -381,7 +461,8 @@ pub fn bench(trials: &str, numbers: &[u8], out: &str) -> i32 {
             missing.push(name);
             continue;
         }
-        for &(n, binders) in &SIZES {
+        let of_k = [PROPOSE_K, COMMIT_K].contains(&name);
+        for &(n, binders) in if of_k { &K_SIZE[..] } else { &SIZES } {
             if name == REFERENCE && n > 64 {
                 continue;
             }
@@ -410,6 +491,9 @@ pub fn bench(trials: &str, numbers: &[u8], out: &str) -> i32 {
                     let long = [&[0][..], &vec![3; 500 * n - 3], &[0, 0]].concat();
                     let whole = translating(&made, |b| if name == PATTERN { b.to_vec() } else { long.clone() });
                     (whole, translating(&made, |_| vec![]))
+                }
+                PROPOSE | PROPOSE_LOOP | COMMIT_FRONT | COMMIT_END | PROPOSE_K | COMMIT_K => {
+                    (0..SHEETS as u64).map(|index| parking(name, n, binders, index)).unzip()
                 }
                 LINE | PARENTHESES | NOTS | LONG_NUMBER => (typing(typed(name, n)), typing(vec![vec![]; SHEETS])),
                 _ => {
@@ -547,8 +631,9 @@ fn page(rows: &[Row], missing: &[&str], start: &[f64], start_time: &[f64], each:
         compiled Rattle program. The Rust program is `differential serve`, the implementation that the
         differential tests compare with: linear reading, a successor index, one mask for each action
         formula, the lent table as its memo, a formula with shared parts for a pattern, a stack of waiting
-        operators for a line, a hash table of the labels and a sort of the transitions for an .aut text;
-        each call that takes a sheet reads it, as in the driver.",
+        operators for a line, a hash table of the labels and a sort of the transitions for an .aut text, a
+        search by halving, one through the transitions and one copy for a branch; each call that takes a
+        sheet reads it, as in the driver.",
     );
     o += &paragraph(
         "Sheets grow in every part: n states, about 16 n transitions of 4 actions, 8 action entries of any
@@ -582,6 +667,17 @@ fn page(rows: &[Row], missing: &[&str], start: &[f64], start_time: &[f64], each:
         have 400 bytes alike and then a number. A long number: the number of states has 250 n digits, and
         the only line leaves the state with the number before it; refused with 39. The figures of texts are
         less that of the same request with a text of no bytes.",
+    );
+    o += &paragraph(
+        "Branches are proposed for and added to 4 sheets of n states, 2 n - 1 actions, 16 n - 1 transitions,
+        n / 4 action entries, n / 2 nodes and 1 to 6 binders: where n is 128, the new sheet is the longest
+        that there is. Every state can be reached from state 0, and each transition leads onward, to one of
+        the next 8 states. A proposed branch has its place about the middle; one from the last state back to
+        state 0 closes a loop, refused with 12; a branch in front is added before all the others, one at the
+        end behind them, with an output that has just the room. Then the same for K, 74 bytes with 3 states,
+        and the branch 0,2,2. The figures of branches are less that of the same request with a sheet of no
+        bytes, and so they have in them the reading of the sheet and its tag, which takes each of its bytes;
+        adding a branch proposes it afresh first.",
     );
     o += &paragraph(
         "Instructions are those of `valgrind --tool=callgrind`; times are the shortest of 9 runs, the programs

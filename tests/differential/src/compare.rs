@@ -3,6 +3,9 @@
 use crate::aut;
 use crate::aut_check;
 use crate::aut_gen;
+use crate::branch_check;
+use crate::branch_gen;
+use crate::branches::{Branch, Proposal};
 use crate::gen::{self, Parts, Rng};
 use crate::line_check;
 use crate::line_gen;
@@ -292,6 +295,7 @@ pub fn compare(trials: &str, seed: u64, count: u64, numbers: &[u8], shrinking: b
     let (mut turns, mut loops) = (Turns::default(), LoopTally::default());
     let (mut made, mut typed) = (pattern_check::Tally::default(), line_check::Tally::default());
     let (mut reported, mut drawn) = (report_check::Tally::default(), aut_check::Tally::default());
+    let mut parked = branch_check::Tally::default();
     let (mut done, mut differences, mut told) = (0u64, 0u64, 0);
     while done < count {
         let n = BATCH.min(count - done);
@@ -314,6 +318,7 @@ pub fn compare(trials: &str, seed: u64, count: u64, numbers: &[u8], shrinking: b
             typed.count(r);
             reported.count(r);
             drawn.count(r);
+            parked.count(r);
             let want = protocol::expected(r);
             let text = String::from_utf8_lossy(&want);
             loops.count(r, &text);
@@ -383,6 +388,9 @@ pub fn compare(trials: &str, seed: u64, count: u64, numbers: &[u8], shrinking: b
     if numbers.contains(&11) {
         println!("{drawn}");
     }
+    if numbers.contains(&12) || numbers.contains(&13) {
+        println!("{parked}");
+    }
     println!("seed {seed}: {done} requests compared, {differences} differences, {:.1} s", begun.elapsed().as_secs_f64());
     i32::from(differences > 0)
 }
@@ -413,6 +421,10 @@ fn describe(trials: &str, r: &Request) {
         }
         Request::Aut { text, out_len, fill } => {
             println!("    text {:?}\n    output of {out_len} bytes {fill}", String::from_utf8_lossy(text))
+        }
+        Request::Propose { sheet, branch } => println!("    sheet {sheet:?}\n    branch {branch:?}"),
+        Request::Commit { sheet, branch, proposal, out_len, fill } => {
+            println!("    sheet {sheet:?}\n    branch {branch:?}, {proposal:?}\n    output of {out_len} bytes {fill}")
         }
     }
     println!("    oracle {}", clip(&protocol::answers(&b)));
@@ -789,6 +801,33 @@ fn candidates(r: &Request) -> Vec<Request> {
             for l in [0, out_len / 2, out_len.saturating_sub(1)] {
                 if l < *out_len {
                     put(text, l);
+                }
+            }
+            out
+        }
+        Request::Propose { sheet, branch } => {
+            let fewer = smaller_sheets(sheet).into_iter().map(|sheet| Request::Propose { sheet, branch: *branch });
+            let lower = branch_gen::smaller(*branch).into_iter().map(|branch| Request::Propose { sheet: sheet.clone(), branch });
+            fewer.chain(lower).collect()
+        }
+        Request::Commit { sheet, branch, proposal, out_len, fill } => {
+            let was = branch_gen::likely(sheet, *branch);
+            let mut out = Vec::new();
+            let mut put = |sheet: &[u8], branch: Branch, proposal: Proposal, out_len: u16| {
+                out.push(Request::Commit { sheet: sheet.to_vec(), branch, proposal, out_len, fill: *fill })
+            };
+            for s in smaller_sheets(sheet) {
+                // a proposal that is off by as much as before and an output that is too long by as much, or the same
+                let fit = (*out_len as usize + s.len()).saturating_sub(sheet.len()) as u16;
+                put(&s, *branch, branch_gen::moved(*proposal, was, branch_gen::likely(&s, *branch)), fit);
+                put(&s, *branch, *proposal, *out_len);
+            }
+            for b in branch_gen::smaller(*branch) {
+                put(sheet, b, branch_gen::moved(*proposal, was, branch_gen::likely(sheet, b)), *out_len);
+            }
+            for l in [0, out_len / 2, out_len.saturating_sub(1)] {
+                if l < *out_len {
+                    put(sheet, *branch, *proposal, l);
                 }
             }
             out

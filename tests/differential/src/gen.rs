@@ -1,6 +1,7 @@
 //! Requests made from a seed: request number i of a seed is always the same.
 
 use crate::aut_gen;
+use crate::branch_gen;
 use crate::line_gen;
 use crate::oracle::{self, assemble};
 use crate::pattern_gen;
@@ -1041,6 +1042,8 @@ fn request(r: &mut Rng, numbers: &[u8]) -> Request {
         9 => line_gen::request(r),
         10 => report_gen::request(r),
         11 => aut_gen::request(r),
+        12 => branch_gen::propose(r),
+        13 => branch_gen::commit(r),
         _ => {
             let mut b = bodies(r);
             if r.chance(1) {

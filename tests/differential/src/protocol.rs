@@ -1,5 +1,6 @@
 //! The trial driver's protocol (TRIALS.md): requests from bytes, and the lines that answer each.
 
+use crate::branches::{self, Branch, Proposal};
 use crate::{aut, lines, oracle, patterns, reports};
 use std::io::Write;
 
@@ -16,6 +17,8 @@ pub enum Request {
     Line { actions: u8, line: Vec<u8>, out_len: u16, fill: u8 },
     Report { sheet: Vec<u8>, states: Vec<u8>, table_len: u16, fill: u8, out_len: u16, out_fill: u8 },
     Aut { text: Vec<u8>, out_len: u16, fill: u8 },
+    Propose { sheet: Vec<u8>, branch: Branch },
+    Commit { sheet: Vec<u8>, branch: Branch, proposal: Proposal, out_len: u16, fill: u8 },
 }
 
 fn blob(out: &mut Vec<u8>, b: &[u8]) {
@@ -37,6 +40,8 @@ impl Request {
             Request::Line { .. } => 9,
             Request::Report { .. } => 10,
             Request::Aut { .. } => 11,
+            Request::Propose { .. } => 12,
+            Request::Commit { .. } => 13,
         }
     }
 
@@ -86,6 +91,19 @@ impl Request {
                 out.extend(out_len.to_le_bytes());
                 out.push(*fill);
             }
+            Request::Propose { sheet, branch } => {
+                blob(out, sheet);
+                out.extend(branch);
+            }
+            Request::Commit { sheet, branch, proposal, out_len, fill } => {
+                blob(out, sheet);
+                out.extend(branch);
+                out.extend(proposal.place.to_le_bytes());
+                out.extend(proposal.length.to_le_bytes());
+                out.extend(proposal.tag.to_le_bytes());
+                out.extend(out_len.to_le_bytes());
+                out.push(*fill);
+            }
         }
     }
 }
@@ -103,6 +121,8 @@ pub enum View<'a> {
     Line { actions: u8, line: &'a [u8], out_len: usize, fill: u8 },
     Report { sheet: &'a [u8], states: &'a [u8], table_len: usize, fill: u8, out_len: usize, out_fill: u8 },
     Aut { text: &'a [u8], out_len: usize, fill: u8 },
+    Propose { sheet: &'a [u8], branch: Branch },
+    Commit { sheet: &'a [u8], branch: Branch, proposal: Proposal, out_len: usize, fill: u8 },
 }
 
 pub struct Input<'a> {
@@ -127,6 +147,13 @@ impl<'a> Input<'a> {
     fn blob(&mut self) -> Option<&'a [u8]> {
         let n = self.word()?;
         self.take(n)
+    }
+    fn branch(&mut self) -> Option<Branch> {
+        Some([self.byte()?, self.byte()?, self.byte()?])
+    }
+    fn proposal(&mut self) -> Option<Proposal> {
+        let (place, length) = (self.word()? as u16, self.word()? as u16);
+        Some(Proposal { place, length, tag: self.word()? as u32 | (self.word()? as u32) << 16 })
     }
     /// The next request; None at the end, on a request cut short and on an unknown byte.
     pub fn request(&mut self) -> Option<View<'a>> {
@@ -153,6 +180,14 @@ impl<'a> Input<'a> {
                 out_fill: self.byte()?,
             },
             11 => View::Aut { text: self.blob()?, out_len: self.word()?, fill: self.byte()? },
+            12 => View::Propose { sheet: self.blob()?, branch: self.branch()? },
+            13 => View::Commit {
+                sheet: self.blob()?,
+                branch: self.branch()?,
+                proposal: self.proposal()?,
+                out_len: self.word()?,
+                fill: self.byte()?,
+            },
             _ => return None,
         })
     }
@@ -259,6 +294,20 @@ pub fn answer(request: &View, out: &mut Vec<u8>) {
                 Err(r) => (r, 0),
             };
             let _ = writeln!(out, "aut {n} {p} {len}");
+            hex("out", &buffer, out);
+            Ok(())
+        }
+        View::Propose { sheet, branch } => match branches::propose(sheet, *branch) {
+            Ok(Proposal { place, length, tag }) => writeln!(out, "propose 0 0 {place} {length} {tag}"),
+            Err((n, p)) => writeln!(out, "propose {n} {p} 0 0 0"),
+        },
+        View::Commit { sheet, branch, proposal, out_len, fill } => {
+            let mut buffer = vec![*fill; *out_len];
+            let ((n, p), len) = match branches::commit(sheet, *branch, *proposal, &mut buffer) {
+                Ok(len) => ((0, 0), len),
+                Err(r) => (r, 0),
+            };
+            let _ = writeln!(out, "commit {n} {p} {len}");
             hex("out", &buffer, out);
             Ok(())
         }

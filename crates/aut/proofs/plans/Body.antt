@@ -10,14 +10,15 @@ use lib.Seq.{getD-drop, drop-drop}
 use Rattle.sheet.specs.Bytes.{byte}
 use Rattle.sheet.specs.Plan.{stateCount, actionCount, transitionCount}
 use Rattle.sheet.specs.WellFormed.{WellFormedPlan}
-use Rattle.sheet.specs.TransitionSystem.{LabelledTransition, transitionOf, planOf}
+use Rattle.sheet.specs.TransitionSystem.{LabelledTransition, transitionOf, planOf, precedes}
 use Rattle.sheet.specs.TransitionSystem as plan
+use Rattle.sheet.proofs.TransitionOrder.{precedes-iff}
 use Rattle.sheet.proofs.TransitionSystem.{at-member}
 use Rattle.aut.specs.Texts.{FirstLine, TransitionLine}
-use Rattle.aut.specs.Plans.{labelsOf, precedes, transitionsOf, SaidBy, InOrder, transitionBytes, bodyOf}
+use Rattle.aut.specs.Plans.{labelsOf, transitionsOf, SaidBy, InOrder, transitionBytes, bodyOf}
 use Rattle.aut.specs.ConversionCorrect.{StatesInRange, WithinLimits, PlanOfText}
 use Rattle.aut.proofs.plans.Labels.{labels-numbered}
-use Rattle.aut.proofs.plans.Transitions.{precedes-iff, transitions-merged}
+use Rattle.aut.proofs.plans.Transitions.{transitions-merged}
 
 -- ---- lengths
 

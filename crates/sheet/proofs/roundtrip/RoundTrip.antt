@@ -62,13 +62,13 @@ module _ (p a r : List ℕ) (k : WellFormedBodies p a r) where
   unfolding sheetOf
   rule-stated = two-bytes (length r) (omega (arith, short))
 
-  plan-back : planBody s ≡ p
+  pub plan-back : planBody s ≡ p
   plan-back = ap (slice s headLength) plan-stated ∙ plan-there p a r
 
-  actions-back : actionsBody s ≡ a
+  pub actions-back : actionsBody s ≡ a
   actions-back = (λ i. slice s (headLength + plan-stated i) (actions-stated i)) ∙ actions-there p a r
 
-  rule-back : ruleBody s ≡ r
+  pub rule-back : ruleBody s ≡ r
   rule-back = (λ i. slice s (headLength + plan-stated i + actions-stated i) (rule-stated i)) ∙ rule-there p a r
 
   kept : WellFormedSheet s

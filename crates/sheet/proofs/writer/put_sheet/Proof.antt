@@ -11,6 +11,15 @@ use Rattle.sheet.proofs.steps.Writing.{copied}
 use Rattle.sheet.proofs.writer.put_sheet.Statement.{statement}
 use Rattle.sheet.proofs.writer.put_sheet.Tie as tie
 
+cast-head-of : tie.Need-cast-head-of
+cast-head-of c = search needs
+
+cast-head-of-2 : tie.Need-cast-head-of-2
+cast-head-of-2 c = search needs
+
+cast-head-of-3 : tie.Need-cast-head-of-3
+cast-head-of-3 c = search needs
+
 head-of-requires : tie.Need-head-of-requires
 head-of-requires c κs = search needs
 
@@ -72,6 +81,9 @@ pub put-sheet-spec : {M : Type 1} → statement M
 put-sheet-spec =
     tie.close
     (tie.spec
+    cast-head-of
+    cast-head-of-2
+    cast-head-of-3
     head-of-requires
     slice-aggregate-copy-at
     copy-at-requires

@@ -1,0 +1,4 @@
+pub mod Outcomes
+pub mod ProposeAnswered
+pub mod CommitAnswered
+pub mod BranchesCorrect

@@ -1,0 +1,5 @@
+pub mod Comparing
+pub mod Placing
+pub mod Inserting
+pub mod Examining
+pub mod Committing

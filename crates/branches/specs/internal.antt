@@ -1,0 +1,4 @@
+pub mod Placing
+pub mod Inserting
+pub mod Examining
+pub mod Writing

@@ -1,0 +1,65 @@
+"""The trial driver as a tool: one request, and what its call gives or its refusal."""
+import re
+import subprocess
+import sys
+
+from native import HERE
+from oracle.sheet import Refused
+
+DRIVER = str(HERE / 'target/bin/trials')
+ROOM = 6455                             # bytes that are enough for every sheet
+
+
+def chosen(args):
+    """the driver, another one where `--driver PROGRAM` stands first, and the other words"""
+    if args[:1] == ['--driver'] and len(args) > 1:
+        return args[1], args[2:]
+    return DRIVER, args
+
+
+def run(command, counts, words, manual):
+    """a command on a driver and its words, so many of them, and the number it ends with"""
+    driver, args = chosen(words)
+    if len(args) not in counts:
+        print(manual)
+        return 2
+    try:
+        command(driver, args)
+    except Refused as refused:
+        sys.exit('refused %d %d' % (refused.number, refused.place))
+    except OSError as missing:
+        sys.exit(str(missing))
+    return 0
+
+
+def answered(driver, request, form):
+    """the values of the answer's first line, and what stands behind it in a given form"""
+    done = subprocess.run([driver], input=request, capture_output=True)
+    found = re.fullmatch(rb'\w+ (\d+) (\d+)((?: \d+)*)\n' + form, done.stdout)
+    if not found:
+        sys.exit('%s does not answer' % driver)
+    number, place = map(int, found.groups()[:2])
+    if number:
+        raise Refused(number, place)
+    return [*map(int, found[3].split())], *found.groups()[3:]
+
+
+def called(driver, request):
+    """what a call leaves at the start of its output"""
+    (length,), out = answered(driver, request, rb'out (\w*)\n')
+    return bytes.fromhex(out.decode())[:length]
+
+
+def fitting(given):
+    if len(given) > 65535:
+        sys.exit('a request of the trial driver has room for 65,535 bytes')
+    return given
+
+
+def typed(words):
+    """bytes in decimal, with spaces or commas between them"""
+    found = words.replace(',', ' ').split()
+    for word in found:
+        if not re.fullmatch('[0-9]{1,3}', word) or int(word) > 255:
+            sys.exit('%s is no byte' % word)
+    return fitting(bytes(map(int, found)))
