@@ -8,8 +8,8 @@ NEW := target/branched.sheet
 STORED := target/stored
 DIFFERENTIAL := cd tests/differential && cargo run --release --offline --quiet --
 
-.PHONY: gate check examples reports sheet branch trials store runs lines long texts count \
-	differential memory benchmark help
+.PHONY: gate check examples reports sheet branch shortest trials store runs lines long texts deep \
+	count differential memory benchmark help
 
 gate: ## prove all from nothing, try the must-fail edits, run the programs (rt ci)
 	.ci/run
@@ -22,6 +22,7 @@ examples: ## judge the sheets of examples/ and others, make some anew, and compa
 	python3 tests/sheets.py check examples $(PROGRAM)
 	python3 tests/sheets.py texts examples $(DRIVER)
 	python3 tests/sheets.py branches examples $(DRIVER)
+	python3 tests/sheets.py recordings examples $(DRIVER)
 
 reports: ## print reports on about a thousand inputs, and compare with what is right
 	rt check counter_report
@@ -34,6 +35,10 @@ sheet: ## write SHEET from the .aut file AUT and typed bodies, ACTIONS='..' RULE
 branch: ## write NEW, the sheet OLD with one more transition, FROM=0 ACTION=2 TO=2
 	rt check trials
 	python3 tests/branch_sheet.py '$(OLD)' '$(FROM)' '$(ACTION)' '$(TO)' '$(NEW)'
+
+shortest: ## say on which beginning of two recordings SHEET's rule fails first, FIRST=.. SECOND=..
+	rt check trials
+	python3 tests/shortest_run.py '$(SHEET)' '$(FIRST)' '$(SECOND)'
 
 trials: ## say whether the stored trials are what tests/cases.py makes
 	mkdir -p $(STORED)
@@ -58,6 +63,10 @@ long: ## read lines of a million words and parentheses on a small stack
 texts: ## turn .aut texts of a million bytes into plans on a small stack
 	rt check aut
 	python3 tests/long_texts.py
+
+deep: ## search runs of 127 actions for the deepest rules on a stack of 6 MiB
+	rt check trials
+	python3 tests/deep_runs.py
 
 count: ## read the counts that some thousands of tables store, and compare with what is right
 	rt check judge

@@ -27,7 +27,8 @@ def one_byte(word):
 
 def branched(driver, args):
     old, branch = fitting(Path(args[0]).read_bytes()), [*map(one_byte, args[1:4])]
-    proposal, = answered(driver, propose_request(old, branch), b'')
+    proposal = [*map(int, answered(driver, propose_request(old, branch),
+                                   rb'(\d+) (\d+) (\d+)\n'))]
     if len(args) == 5:
         new = called(driver, commit_request(old, branch, proposal, ROOM, 0))
         Path(args[4]).write_bytes(new)

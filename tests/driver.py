@@ -22,7 +22,7 @@ def run(command, counts, words, manual):
     driver, args = chosen(words)
     if len(args) not in counts:
         print(manual)
-        return 2
+        return 0 if args == ['--help'] else 2
     try:
         command(driver, args)
     except Refused as refused:
@@ -33,21 +33,21 @@ def run(command, counts, words, manual):
 
 
 def answered(driver, request, form):
-    """the values of the answer's first line, and what stands behind it in a given form"""
+    """what stands behind the number and the place of an answer, in a given form"""
     done = subprocess.run([driver], input=request, capture_output=True)
-    found = re.fullmatch(rb'\w+ (\d+) (\d+)((?: \d+)*)\n' + form, done.stdout)
+    found = re.fullmatch(rb'\w+ (\d+) (\d+) ' + form, done.stdout)
     if not found:
         sys.exit('%s does not answer' % driver)
-    number, place = map(int, found.groups()[:2])
-    if number:
-        raise Refused(number, place)
-    return [*map(int, found[3].split())], *found.groups()[3:]
+    number, place, *values = found.groups()
+    if int(number):
+        raise Refused(int(number), int(place))
+    return [value.decode() for value in values]
 
 
 def called(driver, request):
     """what a call leaves at the start of its output"""
-    (length,), out = answered(driver, request, rb'out (\w*)\n')
-    return bytes.fromhex(out.decode())[:length]
+    length, out = answered(driver, request, rb'(\d+)\nout (\w*)\n')
+    return bytes.fromhex(out)[:int(length)]
 
 
 def fitting(given):

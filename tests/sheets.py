@@ -1,18 +1,23 @@
 #!/usr/bin/env python3
-"""The example sheets, the text of one's plan and the example report, with pages that explain them.
+"""The example sheets, the text of one's plan, the recordings for another and the example report,
+with pages that explain them.
 
-    sheets.py write DIR            writes DIR/NAME.sheet, or DIR/NAME.report, and DIR/NAME.txt for
-                                   each, and DIR/NAME.aut for a plan that has a text
-    sheets.py check DIR PROGRAM    runs PROGRAM on each sheet of DIR and compares with the last line
-                                   of its page; then on sheets at the limits and on refused ones,
-                                   and compares with what docs/FORMAT.md says
-    sheets.py texts DIR DRIVER     makes each sheet of DIR that has an .aut text anew from it, by
-                                   tests/aut_sheet.py and the trial driver DRIVER, and compares with
-                                   the sheet; then others, and refused ones
-    sheets.py branches DIR DRIVER  makes the sheet of DIR that has a branch anew, by
-                                   tests/branch_sheet.py and the trial driver DRIVER, and compares
-                                   with the sheet; then others, and refused ones
-    sheets.py deepest FILE         the sheet on which a query nests deepest
+    sheets.py write DIR              writes DIR/NAME.sheet, or DIR/NAME.report, and DIR/NAME.txt for
+                                     each, DIR/NAME.aut for a plan that has a text, and
+                                     DIR/NAME-WHICH.run for each recording
+    sheets.py check DIR PROGRAM      runs PROGRAM on each sheet of DIR and compares with the last
+                                     line of its page; then on sheets at the limits and on refused
+                                     ones, and compares with what docs/FORMAT.md says
+    sheets.py texts DIR DRIVER       makes each sheet of DIR that has an .aut text anew from it, by
+                                     tests/aut_sheet.py and the trial driver DRIVER, and compares
+                                     with the sheet; then others, and refused ones
+    sheets.py branches DIR DRIVER    makes the sheet of DIR that has a branch anew, by
+                                     tests/branch_sheet.py and the trial driver DRIVER, and compares
+                                     with the sheet; then others, and refused ones
+    sheets.py recordings DIR DRIVER  searches the recordings of DIR, by tests/shortest_run.py and
+                                     the trial driver DRIVER, and compares with the page; then
+                                     others, and refused ones
+    sheets.py deepest FILE           the sheet on which a query nests deepest
 """
 import re
 import subprocess
@@ -22,15 +27,17 @@ import textwrap
 from pathlib import Path
 
 from inputs.aut_parts import text
-from inputs.examples import COUNTER, CUT, KEY, KEY_BRANCH, LOOP_AHEAD, SPARE, WORN_KEPT
+from inputs.examples import COUNTER, CUT, KEY, KEY_BRANCH, LOOP_AHEAD, SERVICE, SPARE, WORN_KEPT
 from inputs.parts import (
-    GREATEST_X, K, K8, K_ACTIONS, K_PLAN, K_RULE, LEAST, LEAST_LOOP, LEAST_X, LONG, deepest, plan,
-    refusals, rule, table)
+    GREATEST_X, K, K8, K_ACTIONS, K_PLAN, K_RULE, LEAST, LEAST_LOOP, LEAST_X, LONG, deepest, faults,
+    plan, refusals, rule, table)
 from native import HERE
 from oracle.aut import read_text
 from oracle.branches import branched, propose
 from oracle.program import line_of, lines_of
+from oracle.recordings import shortest
 from oracle.sheet import bodies_at, read_sheet, sheet_of, triples, word
+from shortest_run import answer_line, refusal_line
 
 KINDS = ('F', 'T', 'or', 'and', 'some', 'every', 'variable', 'least', 'greatest')
 
@@ -87,6 +94,29 @@ def text_rows(example):
         yield line, '%s,%d,%s%s' % (source.decode(), labels.index(label), to.decode(), new)
 
 
+def run_name(example, which):
+    return '%s-%s.run' % (example['name'], which)
+
+
+def shortest_line(s, first, second):
+    """what tests/shortest_run.py says of recordings that are not refused"""
+    which, part = shortest(s, first, second)
+    return answer_line(which, bytes.fromhex(part))
+
+
+def run_rows(example):
+    """the bytes of each recording with their actions, and what is found"""
+    s, recordings = sheet_of(*example['bodies']), example['recordings']
+    for which, run in recordings.items():
+        yield ''
+        yield 'The %s recording, %s, %d bytes' % (which, run_name(example, which), len(run))
+        yield from shown(([action], example['actions'][action]) for action in run)
+    yield from ('', *filled(example['of the recordings']), '', 'The command')
+    yield '  python3 tests/shortest_run.py examples/%s.sheet \\' % example['name']
+    yield '      ' + ' '.join('examples/' + run_name(example, which) for which in recordings)
+    yield from ('prints', '  ' + shortest_line(s, **recordings))
+
+
 def page(example):
     s = sheet_of(*example['bodies'])
     out = [*filled(example['title']), '', 'Plan', *filled(example['plan']), '',
@@ -98,6 +128,8 @@ def page(example):
         out += ['', 'The plan as a text, %s.aut' % example['name'],
                 *('  %-24s %s' % row for row in text_rows(example)),
                 *filled(example['of the text'])]
+    if 'recordings' in example:
+        out += run_rows(example)
     return '\n'.join([*out, '', 'The program plan_judge prints', line_of(s), ''])
 
 
@@ -268,14 +300,71 @@ def branches(folder, driver):
     return min(wrong, 1)
 
 
+def to_search(folder):
+    """sheets and two recordings; what is said of them"""
+    sheet = Path(folder, SERVICE['name'] + '.sheet').read_bytes()
+    first, second = (Path(folder, run_name(SERVICE, which)).read_bytes()
+                     for which in SERVICE['recordings'])
+    words = Path(folder, SERVICE['name'] + '.txt').read_text()
+    # the commands of the pages, and what they print; a recording as a shell writes it
+    page = (HERE / 'docs/RECORDINGS.md').read_text()
+    for form, given in ((r'run.py (\S+) \\\n *(\S+) (\S+)\nprints\n *(.*)\n', words),
+                        (r'SHEET=(\S+) FIRST=(\S+) \\\n *SECOND=(\S+)\n\n.*\n\n *(.*)\n', page)):
+        *files, line = re.search(form, given).groups()
+        yield *((HERE / file).read_bytes() for file in files), line
+    octal = re.search(r"printf '(.*)' > second.run", page)[1].split('\\')[1:]
+    assert bytes(int(digits, 8) for digits in octal) == second
+    said = 'the rule fails on the first %s recording: %s'
+    yield sheet, first, second, said % ('5 actions of the second', '0 2 5 0 3')
+    yield sheet, second, first, said % ('5 actions of the first', '0 2 5 0 3')
+    yield sheet, first, b'\3', said % ('8 actions of the first', '0 1 3 4 5 0 2 0')
+    no_1 = sheet_of(K_PLAN, K_ACTIONS, rule((5, 1, 1), (0, 0, 0)))
+    yield no_1, b'\2\1', b'\1\2', said % ('action of the second', '1')
+    for one, other in ((first, second[:4]), (first[:7], second[:4]), (b'', b''), (b'', second),
+                       (second[3:], first), (b'\0' * 127, b'\5' * 127), (b'\5' * 127, b'\5' * 9)):
+        yield sheet, one, other, shortest_line(sheet, one, other)
+    for s in (K, K8, sheet_of(*CUT['bodies']), sheet_of(*LONG)):
+        yield s, b'\1\2', b'\2', shortest_line(s, b'\1\2', b'\2')
+    yield sheet, b'\0' * 128, second, refusal_line(42, 0)
+    yield sheet, first, b'\6', refusal_line(43, 0)
+    yield sheet_of(*LEAST), b'', b'\0', refusal_line(43, 0)
+    yield sheet[:-1], first, second, refusal_line(3, 0)
+    for number, place, s in faults():
+        yield s, first, b'\0' * 128, refusal_line(number, place)
+    yield b'(' * 65536, first, second, TOO_LONG
+    yield sheet, b'\1' * 65536, second, TOO_LONG
+
+
+def recordings(folder, driver):
+    wrong = 0
+    command = [sys.executable, str(HERE / 'tests/shortest_run.py'), '--driver', driver]
+    with tempfile.TemporaryDirectory() as made:
+        for i, (*given, wanted) in enumerate(to_search(folder)):
+            files = [Path(made, '%d.%s' % (i, which)) for which in ('sheet', 'first', 'second')]
+            for file, content in zip(files, given):
+                file.write_bytes(content)
+            done = subprocess.run([*command, *map(str, files)], capture_output=True)
+            line = wanted.encode() + b'\n'
+            right = (line, b'', 0) if wanted.startswith('the rule') else (b'', line, 1)
+            found = done.stdout, done.stderr, done.returncode
+            good = found == right and all(file.read_bytes() == content
+                                          for file, content in zip(files, given))
+            wrong += not good
+            print('recordings %d:' % i, wanted if good else '%s and not %s' % (found, right))
+    print('all as expected' if wrong == 0 else '%d wrong' % wrong)
+    return min(wrong, 1)
+
+
 def main(args):
     if args[:1] == ['write'] and len(args) == 2:
-        for example in (KEY, KEY_BRANCH, CUT, SPARE):
+        for example in (KEY, KEY_BRANCH, CUT, SPARE, SERVICE):
             sheet = sheet_of(*example['bodies'])
             Path(args[1], example['name'] + '.sheet').write_bytes(sheet)
             Path(args[1], example['name'] + '.txt').write_text(page(example))
             if 'text' in example:
                 Path(args[1], example['name'] + '.aut').write_bytes(example['text'])
+            for which, run in example.get('recordings', {}).items():
+                Path(args[1], run_name(example, which)).write_bytes(run)
         Path(args[1], COUNTER['name'] + '.report').write_bytes(report_input(COUNTER))
         Path(args[1], COUNTER['name'] + '.txt').write_text(report_page(COUNTER))
         return 0
@@ -285,6 +374,8 @@ def main(args):
         return texts(*args[1:])
     if args[:1] == ['branches'] and len(args) == 3:
         return branches(*args[1:])
+    if args[:1] == ['recordings'] and len(args) == 3:
+        return recordings(*args[1:])
     if args[:1] == ['deepest'] and len(args) == 2:
         Path(args[1]).write_bytes(deepest())
         return 0

@@ -5,7 +5,7 @@ from itertools import product
 from inputs.branch_parts import (
     committed, not_committed, not_proposed, onward, proposed, refused, small, taken)
 from inputs.parts import (
-    K, K_ACTIONS, K_RULE, LONG, LONG_ACTIONS, LONG_RULE, SELF, T, TRUE, many, plan, refusals, rule,
+    K, K_ACTIONS, K_RULE, LONG, LONG_ACTIONS, LONG_RULE, SELF, T, TRUE, faults, many, plan, rule,
     table)
 from oracle.sheet import sheet_of
 
@@ -149,9 +149,7 @@ def longest_branches():
 def faulty():
     """a fault of the sheet comes first, with its place, whatever is wrong with the branch, the
     proposal and the output"""
-    numbers = ((1, 0), (2, 0), (3, 0), (4, 0), (5, 1), (6, 0), (7, 1), (7, 1), (7, 1), (8, 0),
-               (9, 1), (10, 3))
-    for (number, place), s in zip(numbers, refusals(), strict=True):
+    for number, place, s in faults():
         yield from refused(number, s, (0, 2, 2), place)
         yield from refused(number, s, (255, 255, 255), place, 0)
         yield from refused(number, s, (0, 1, 1), place, 9)

@@ -6,7 +6,9 @@ from oracle.lines import line_body
 from oracle.patterns import translate
 from oracle.protocol import (
     aut_request, commit_request, guard_request, line_request, list_request, pattern_request,
-    propose_request, query_request, read_request, reference_request, report_request, write_request)
+    propose_request, query_request, read_request, reference_request, report_request,
+    shortest_request, write_request)
+from oracle.recordings import shortest
 from oracle.reports import ROOM
 from oracle.rows import Sheet
 from oracle.sheet import Refused, accepted, bodies_at, read_sheet, sheet_of, triples
@@ -344,3 +346,39 @@ def random_branch(rng, most=(1, 3, 8)):
     yield commit_request(s, branch, random_proposal(rng, fresh),
                          max(0, len(s) + 3 + rng.choice((0, 0, 0, 1, 9, -1, -20))),
                          rng.randrange(256))
+
+
+def random_run(rng, most):
+    """of few actions or of all six"""
+    few = rng.sample(range(6), rng.choice((1, 2, 2, 6)))
+    return bytes(rng.choices(few, k=rng.choice(most)))
+
+
+def spoilt(rng, run):
+    """too long, or with an action that there is not; most often as it is"""
+    if rng.random() < 0.03:
+        run += bytes(128 - len(run) + rng.choice((0, 0, 1, 128)))
+    if rng.random() < 0.04:
+        at = rng.randrange(len(run) + 1)
+        run = run[:at] + bytes([rng.choice((6, 6, 7, 255))]) + run[at:]
+    return run
+
+
+def random_recordings(rng, nodes=(3, 8, 16), most=(0, 1, 2, 3, 4, 6, 9)):
+    """two recordings, often with a common beginning, for a sheet that is nearly always whole; made
+    once, or up to 9 or 30 times until the rule holds on the empty beginning and fails on a longer
+    one"""
+    for _ in range(rng.choice((1, 9, 30))):
+        s, first, second = random_sheet(rng, nodes), random_run(rng, most), random_run(rng, most)
+        if rng.random() < 0.3:
+            second = (first[:rng.randrange(len(first) + 1)] + second)[:max(most)]
+        try:
+            if shortest(s, first, second)[1]:
+                break
+        except Refused:
+            pass
+    if rng.random() < 0.4:
+        first, second = second, first
+    if rng.random() < 0.06:
+        s = damaged(rng, s)
+    yield shortest_request(s, spoilt(rng, first), spoilt(rng, second))

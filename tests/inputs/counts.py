@@ -1,5 +1,5 @@
 """The count that a table carries: requests 4 and 5, each with what it must give."""
-from inputs.parts import F, K, LEAST_LOOP, T, counted, deepest, plan, refusals, rule, set_at, table
+from inputs.parts import F, K, LEAST_LOOP, T, counted, deepest, faults, plan, rule, set_at, table
 from oracle.protocol import list_request, query_request
 from oracle.sheet import four, sheet_of
 
@@ -101,7 +101,7 @@ def lengths():
 def in_order():
     """a wrong count, and something of a lower number"""
     off = counted(AT_0, 1)
-    for number, s in zip((1, 2, 3, 4, 5, 6, 7, 7, 7, 8, 9, 10), refusals()):
+    for number, _, s in faults():
         yield query_request(s, 0, off), 'query %d ' % number
     for state in (3, 255):
         yield refused(11, K, state, off)

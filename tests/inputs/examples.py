@@ -1,5 +1,5 @@
-"""The example sheets, the example text of a plan and the example report, with the words that their
-pages say of them."""
+"""The example sheets, the example text of a plan, the example recordings and the example report,
+with the words that their pages say of them."""
 from inputs.aut_parts import text
 from inputs.parts import F, K, K_ACTIONS, K_PLAN, K_RULE, T, plan, rule, table
 from oracle.branches import tag_of
@@ -77,6 +77,41 @@ SPARE = {
 
 WORN_KEPT = sheet_of(*cutting(7, [t for t in CUT_TRANSITIONS if t != (3, 5, 6)]))
 LOOP_AHEAD = sheet_of(*cutting(9, [*SPARE_TRANSITIONS, (5, 3, 8)]))
+
+# blank after blank: the release leads back to the start
+SERVICE = {
+    **CUT,
+    'name': 'service',
+    'title': 'The machine of cut.txt, which takes one blank after the other, and two recordings of '
+             'it that service got.',
+    'plan': 'As in cut.txt, but the release leads back to the start, where the next blank is laid '
+            'in.',
+    'states': CUT['states'][:-1],
+    'formula': ['greatest X. (every "clamp" (greatest Y. (every "cut" F and every "no probe" Y)',
+                '                            and greatest Z. (every "clamp" F and every "no '
+                'release" Z))',
+                '             and every "any" X)'],
+    'rule': 'In words: wherever a blank is clamped, there is no cut before a probe, and no other '
+            'clamp before a release. So the rule holds of what a machine has done so far until one '
+            'wrong action comes, and fails from then on.',
+    'entries': ['clamp', 'cut', 'a probe: every action from 1 to 2', 'no probe: not entry 2',
+                'release', 'no release: not entry 4', 'any action'],
+    'bodies': (plan(6, 6, [(0, 0, 1), (1, 1, 2), (1, 2, 3), (2, 3, 4), (3, 5, 0), (4, 4, 5),
+                           (5, 5, 0)]),
+               table((2, 0, 0), (2, 3, 0), (6, 1, 2), (5, 2, 0), (2, 5, 0), (5, 4, 0), (1, 0, 0)),
+               rule((8, 0, 1), (3, 2, 16), (5, 0, 3), (3, 4, 10), (8, 1, 5), (3, 6, 8), (5, 1, 7),
+                    F, (5, 3, 9), (6, 1, 0), (8, 2, 11), (3, 12, 14), (5, 0, 13), F, (5, 5, 15),
+                    (6, 2, 0), (5, 6, 17), (6, 0, 0))),
+    'recordings': {'first': bytes([0, 1, 3, 4, 5, 0, 2, 0, 1]),
+                   'second': bytes([0, 2, 5, 0, 3, 4, 5])},
+    'also': 'The plan leads from state 0 back to it, and plan_judge refuses that. Recordings are '
+            'judged as plans of their own, each one chain of states, and the plan of the sheet '
+            'tells them the number of actions and no more.',
+}
+SERVICE['of the recordings'] = (
+    'In the first a blank that was found worn is not released: with the clamp behind it the rule '
+    'fails, on 8 actions. In the second a blank is cut that was not probed: the rule fails on 5 '
+    'actions, fewer than in the first, and on none of the beginnings before.')
 
 # in an order in which the labels get the numbers of the actions: deburring before any release
 CUT['text'] = text(7, (0, b'clamp', 1), (1, b'probe, sound', 2), (1, b'probe, worn', 3),

@@ -80,17 +80,22 @@ def deepest():
     return sheet_of(line(128), TRUE, rule(*nodes))
 
 
+def faults():
+    """numbers from 1 to 10, each with its place and a sheet that has this fault"""
+    yield 1, 0, K[:16]
+    yield 2, 0, set_at(K, 1, 2)
+    yield 3, 0, K + b'\0'
+    yield 4, 0, sheet_of(plan(0, 0, []), TRUE, rule(T))
+    yield 5, 1, sheet_of(plan(3, 3, [(0, 1, 1), (0, 1, 1)]), TRUE, rule(T))
+    yield 6, 0, sheet_of(K_PLAN, b'', rule(T))
+    yield 7, 1, sheet_of(K_PLAN, table((1, 0, 0), (7, 0, 0)), rule(T))
+    yield 7, 1, sheet_of(K_PLAN, table((6, 0, 2), (6, 2, 1)), rule(T))
+    yield 7, 1, sheet_of(K_PLAN, table((6, 0, 2), (6, 0, 3)), rule(T))
+    yield 8, 0, sheet_of(K_PLAN, TRUE, rule())
+    yield 9, 1, sheet_of(K_PLAN, TRUE, rule((4, 0, 1), (4, 1, 2), T))
+    yield 10, 3, sheet_of(K_PLAN, TRUE, rule((7, 0, 1), (2, 2, 3), T, (6, 1, 0)))
+
+
 def refusals():
     """sheets with a fault of each number from 1 to 10"""
-    yield K[:16]
-    yield set_at(K, 1, 2)
-    yield K + b'\0'
-    yield sheet_of(plan(0, 0, []), TRUE, rule(T))
-    yield sheet_of(plan(3, 3, [(0, 1, 1), (0, 1, 1)]), TRUE, rule(T))
-    yield sheet_of(K_PLAN, b'', rule(T))
-    yield sheet_of(K_PLAN, table((1, 0, 0), (7, 0, 0)), rule(T))
-    yield sheet_of(K_PLAN, table((6, 0, 2), (6, 2, 1)), rule(T))
-    yield sheet_of(K_PLAN, table((6, 0, 2), (6, 0, 3)), rule(T))
-    yield sheet_of(K_PLAN, TRUE, rule())
-    yield sheet_of(K_PLAN, TRUE, rule((4, 0, 1), (4, 1, 2), T))
-    yield sheet_of(K_PLAN, TRUE, rule((7, 0, 1), (2, 2, 3), T, (6, 1, 0)))
+    return (s for _, _, s in faults())

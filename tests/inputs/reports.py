@@ -6,7 +6,7 @@ from inputs.counts import AT_0, AT_0_AND_2, PAIRS
 from inputs.examples import SPARE
 from inputs.parts import (
     F, GREATEST_X, K, K8, K_ACTIONS, K_PLAN, K_RULE, LEAST, LEAST_LOOP, LEAST_X, LONG, T, TRUE,
-    deepest, many, plan, refusals, rule, table)
+    deepest, faults, many, plan, rule, table)
 from oracle.protocol import report_request
 from oracle.reports import ROOM
 from oracle.rows import Sheet, clear, query
@@ -165,9 +165,7 @@ def outputs():
 def in_order():
     """each pair of refusals and all of them: 36, what clearing gives with its place, 22"""
     over, most = [0] * 65, [0] * 64
-    numbers = ((1, 0), (2, 0), (3, 0), (4, 0), (5, 1), (6, 0), (7, 1), (7, 1), (7, 1), (8, 0),
-               (9, 1), (10, 3))
-    for (number, place), s in zip(numbers, refusals(), strict=True):
+    for number, place, s in faults():
         yield refused(36, 0, s, over, 0, 0)
         yield refused(number, place, s, most, 0, 0)
         yield refused(number, place, s, [], 9, 9)

@@ -1,5 +1,6 @@
 """The streams of requests: the one that is stored, and a longer one."""
 import random
+from itertools import product
 
 from inputs.aut_limits import longest_texts
 from inputs.aut_page import auts_to_try
@@ -10,8 +11,8 @@ from inputs.branch_limits import longest_branches
 from inputs.branch_parts import likely, small
 from inputs.branches import branches, branches_to_try
 from inputs.chance import (
-    random_branch, random_conversion, random_judging, random_list, random_reading, random_report,
-    random_translation, random_typing)
+    random_branch, random_conversion, random_judging, random_list, random_reading,
+    random_recordings, random_report, random_translation, random_typing)
 from inputs.counts import counts_to_try
 from inputs.judging import judgings
 from inputs.line_limits import longest_lines
@@ -23,6 +24,9 @@ from inputs.parts import (
     rule)
 from inputs.pattern_page import patterns_to_try
 from inputs.patterns import judged_translations, patterns
+from inputs.recording_parts import by_pattern
+from inputs.recording_rules import sayings
+from inputs.recordings import judged_runs, recordings, recordings_to_try
 from inputs.reports import reports, reports_to_try
 from inputs.rules import children_to_try
 from inputs.to_try import to_try
@@ -30,7 +34,7 @@ from oracle.branches import tag_of
 from oracle.protocol import (
     answers, aut_request, commit_request, guard_request, line_request, list_request,
     pattern_request, propose_request, query_request, read_request, reference_request,
-    report_request, write_request)
+    report_request, shortest_request, write_request)
 from oracle.reports import ROOM
 from oracle.sheet import sheet_of, triples
 
@@ -56,6 +60,8 @@ def stored():
     yield from auts()
     yield from expected(*branches_to_try())
     yield from branches()
+    yield from expected(*recordings_to_try(), *judged_runs())
+    yield from recordings()
 
 
 # an unknown request ends the run: what follows it gives nothing
@@ -143,3 +149,13 @@ def large():
             yield commit_request(s, branch, likely(s, branch), len(s) + 3, chosen % 256)
     for _ in range(4000):
         yield from random_branch(rng, (1, 3, 8, 16, 40, 64))
+    for first, second in ((full, full), (b'', full), (full, b''), (full[:128], full[:65534])):
+        yield shortest_request(K, first, second)
+        yield shortest_request(sheet_of(*LONG), first, second)
+    yield shortest_request(full, full, full)
+    # each two recordings of up to three of two actions, for each rule
+    runs = [bytes(run) for n in range(4) for run in product((0, 1), repeat=n)]
+    for s, pattern in sayings():
+        yield from expected(*(by_pattern(s, pattern, *pair) for pair in product(runs, repeat=2)))
+    for _ in range(4000):
+        yield from random_recordings(rng, (3, 8, 16, 40, 64), (0, 1, 2, 3, 5, 9, 30))

@@ -3,6 +3,7 @@ from oracle.aut import aut_body
 from oracle.branches import commit, propose
 from oracle.lines import line_body
 from oracle.patterns import translate
+from oracle.recordings import shortest
 from oracle.reports import report
 from oracle.rows import clear, query
 from oracle.sheet import Refused, children, four, read_sheet, two, word, write_sheet
@@ -66,6 +67,10 @@ def commit_request(s, branch, proposal, size, fill):
     place, length, tag = proposal
     return (b'\x0d' + blob_of(s) + bytes(branch) + two(place) + two(length) + four(tag)
             + two(size) + bytes([fill]))
+
+
+def shortest_request(s, first, second):
+    return b'\x0e' + blob_of(s) + blob_of(first) + blob_of(second)
 
 
 def yes(b):
@@ -208,9 +213,15 @@ def answer_commit(stream):
     return text + 'out %s\n' % out.hex()
 
 
+def answer_shortest(stream):
+    sheet, first, second = stream.blob(), stream.blob(), stream.blob()
+    return reported('shortest', lambda: shortest(sheet, first, second), 'none', '')
+
+
 ANSWERS = {1: answer_read, 2: answer_guard, 3: answer_reference, 4: answer_list, 5: answer_query,
            6: answer_write, 7: answer_pattern, 8: answer_children, 9: answer_line,
-           10: answer_report, 11: answer_aut, 12: answer_propose, 13: answer_commit}
+           10: answer_report, 11: answer_aut, 12: answer_propose, 13: answer_commit,
+           14: answer_shortest}
 
 
 def answered(given):

@@ -8,7 +8,7 @@ mod packed;
 mod preparing;
 pub mod querying;
 mod scanning;
-mod table;
+pub mod table;
 mod widen;
 
 use sheet::Refusal;

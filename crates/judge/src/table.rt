@@ -19,7 +19,7 @@ ghost use mathlib.Core.List.{_++_};
 ghost use Prim.Native.Nat.{_+_, _*_, _≤_, _<_};
 ghost use lib.ListN.{length, getD, set, take, drop, replicate};
 ghost use Rattle.rows.specs.Tables.{byteOf};
-ghost use Rattle.judge.specs.Cells.{cellBytes, countBytes, tableBytesFor};
+ghost use Rattle.judge.specs.Cells.{cellBytes, countBytes, tableBytesFor, tableBytes};
 ghost use Rattle.judge.specs.StoredCount.{numberAt, inFourBytes};
 ghost use Rattle.judge.specs.internal.Index.{nodesAt, marksAt, HeadRight};
 ghost use Rattle.judge.specs.internal.Judging.{productBound};
@@ -58,6 +58,13 @@ pub(crate) fn table_bytes_for(cells: usize) -> usize
     ensures { λ r. ⌜ r ≡ tableBytesFor cells ⌝ }
 {
     cells + COUNT_BYTES
+}
+
+// How many bytes a sheet's table has, the count included: what clearing and a query must be lent at least.
+pub fn table_size(sheet: &[u8]) -> usize
+    ensures { λ r. ⌜ r ≡ tableBytes (now (sheet .entry)) ⌝ }
+{
+    table_bytes_for(cell_bytes(sheet))
 }
 
 pub(crate) fn zero(table: &mut [u8], size: usize)

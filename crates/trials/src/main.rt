@@ -10,6 +10,7 @@ mod output;
 mod pattern;
 mod query;
 mod read;
+mod recorded;
 mod refer;
 mod reports;
 mod write;
@@ -40,6 +41,7 @@ fn answer(
         11 => convert::answer(first, second),
         12 => branch::answer_propose(first),
         13 => branch::answer_commit(first, second),
+        14 => recorded::answer(first, second, third),
         _ => false,
     }
 }

@@ -12,6 +12,7 @@ use crate::oracle;
 use crate::pattern_gen;
 use crate::patterns;
 use crate::protocol::Request;
+use crate::recordings::{self, Which};
 use crate::reports::{MOST, ROOM};
 use std::collections::BTreeSet;
 use std::fmt::Write as _;
@@ -25,6 +26,8 @@ const SHEETS: usize = 4;
 const SIZES: [(usize, usize); 5] = [(8, 1), (16, 2), (32, 3), (64, 4), (128, 6)];
 /// K's states and binders.
 const K_SIZE: [(usize, usize); 1] = [(3, 2)];
+/// The actions of recordings, and the binders of the rule.
+const RUN_SIZES: [(usize, usize); 3] = [(10, 3), (50, 3), (127, 3)];
 
 /// A plan of `n` states, each with 16 transitions of 4 actions to the next 8 states (fewer near the end).
 fn plan(r: &mut Rng, n: usize, back: bool) -> Vec<[u8; 3]> {
@@ -269,6 +272,56 @@ fn parking(name: &str, n: usize, binders: usize, index: u64) -> (Request, Reques
     (request(sheet), request(vec![]))
 }
 
+/// The sheet of `examples/service.sheet`: a machine that takes one blank after the other, and a rule that holds until one is cut that was
+/// not probed, or one clamped before the last was released.
+fn service() -> Vec<u8> {
+    let nodes = [
+        [8, 0, 1], [3, 2, 16], [5, 0, 3], [3, 4, 10], [8, 1, 5], [3, 6, 8], [5, 1, 7], [0, 0, 0], [5, 3, 9],
+        [6, 1, 0], [8, 2, 11], [3, 12, 14], [5, 0, 13], [0, 0, 0], [5, 5, 15], [6, 2, 0], [5, 6, 17], [6, 0, 0],
+    ];
+    let transitions = vec![[0, 0, 1], [1, 1, 2], [1, 2, 3], [2, 3, 4], [3, 5, 0], [4, 4, 5], [5, 5, 0]];
+    let entries = vec![[2, 0, 0], [2, 3, 0], [6, 1, 2], [5, 2, 0], [2, 5, 0], [5, 4, 0], [1, 0, 0]];
+    Parts { states: 6, actions: 6, transitions, entries, nodes: nodes.to_vec() }.sheet()
+}
+
+/// The rule on which a query nests deepest, its kinds exchanged, so that it holds.
+fn deepest() -> Vec<u8> {
+    let mut nodes: Vec<[u8; 3]> = (0..6).map(|k| [8, k, k + 1]).collect();
+    for tooth in [vec![[1, 0, 0]; 23], (0..5).rev().map(|k| [6, k, 0]).collect()].concat() {
+        let at = nodes.len() as u8;
+        nodes.extend([[3, at + 1, at + 2], tooth]);
+    }
+    nodes.extend([[5, 0, 63], [6, 5, 0]]);
+    Parts { states: 1, actions: 1, transitions: vec![], entries: vec![[1, 0, 0]], nodes }.sheet()
+}
+
+/// A recording of n actions of the machine, blank after blank, some of them worn.
+fn good_run(r: &mut Rng, n: usize) -> Vec<u8> {
+    let mut run = Vec::new();
+    while run.len() < n {
+        run.extend(r.pick(&[&[0, 1, 3, 4, 5][..], &[0, 2, 5]]));
+    }
+    run.truncate(n);
+    run
+}
+
+/// The request for two recordings of n actions, and the same with a sheet of no bytes.
+fn searching(name: &str, n: usize, index: u64) -> (Request, Request) {
+    let mut r = Rng::new(SEED, 5_000_000 + 1000 * n as u64 + index);
+    let (sheet, [first, mut second]) = match name {
+        RUNS_DEEP => (deepest(), [vec![0; n], vec![0; n]]),
+        _ => (service(), [good_run(&mut r, n), good_run(&mut r, n)]),
+    };
+    let mut right = None;
+    if name == RUNS_EARLY {
+        second[..2].copy_from_slice(&[0, 3]);
+        right = Some((Which::Second, &second[..2]));
+    }
+    assert_eq!(recordings::shortest(&sheet, &first, &second), Ok(right), "{name}, n = {n}");
+    let request = |sheet: Vec<u8>| Request::Shortest { sheet, first: first.clone(), second: second.clone() };
+    (request(sheet), request(vec![]))
+}
+
 struct Program {
     path: String,
     args: Vec<String>,
@@ -350,9 +403,12 @@ const COMMIT_FRONT: &str = "adding a branch in front";
 const COMMIT_END: &str = "adding a branch at the end";
 const PROPOSE_K: &str = "proposing a branch for K";
 const COMMIT_K: &str = "adding a branch to K";
+const RUNS: &str = "searching good runs";
+const RUNS_EARLY: &str = "searching runs, one bad early";
+const RUNS_DEEP: &str = "searching runs, deepest rule";
 
 /// Each with its request.
-const OPS: [(&str, u8); 27] = [
+const OPS: [(&str, u8); 30] = [
     (READING, 1),
     (REFERENCE, 3),
     (FIRST_QUERY, 4),
@@ -380,13 +436,17 @@ const OPS: [(&str, u8); 27] = [
     (COMMIT_END, 13),
     (PROPOSE_K, 12),
     (COMMIT_K, 13),
+    (RUNS, 14),
+    (RUNS_EARLY, 14),
+    (RUNS_DEEP, 14),
 ];
 
 /// The plots, each with what it shows and its calls. What is measured for K has one size and no plot.
-const PLOTS: [(&str, &str, Range<usize>); 3] = [
+const PLOTS: [(&str, &str, Range<usize>); 4] = [
     ("benchmark.svg", "Instructions for one request, and their ratio, by n", 0..12),
     ("benchmark-aut.svg", "The same for .aut texts", 12..21),
     ("benchmark-branches.svg", "The same for branches", 21..25),
+    ("benchmark-recordings.svg", "The same for recordings", 27..30),
 ];
 
 fn stream(requests: &[Request], times: usize) -> Vec<u8> {
@@ -461,8 +521,12 @@ pub fn bench(trials: &str, numbers: &[u8], out: &str) -> i32 {
             missing.push(name);
             continue;
         }
-        let of_k = [PROPOSE_K, COMMIT_K].contains(&name);
-        for &(n, binders) in if of_k { &K_SIZE[..] } else { &SIZES } {
+        let sizes = match name {
+            PROPOSE_K | COMMIT_K => &K_SIZE[..],
+            RUNS | RUNS_EARLY | RUNS_DEEP => &RUN_SIZES,
+            _ => &SIZES,
+        };
+        for &(n, binders) in sizes {
             if name == REFERENCE && n > 64 {
                 continue;
             }
@@ -495,6 +559,7 @@ pub fn bench(trials: &str, numbers: &[u8], out: &str) -> i32 {
                 PROPOSE | PROPOSE_LOOP | COMMIT_FRONT | COMMIT_END | PROPOSE_K | COMMIT_K => {
                     (0..SHEETS as u64).map(|index| parking(name, n, binders, index)).unzip()
                 }
+                RUNS | RUNS_EARLY | RUNS_DEEP => (0..SHEETS as u64).map(|index| searching(name, n, index)).unzip(),
                 LINE | PARENTHESES | NOTS | LONG_NUMBER => (typing(typed(name, n)), typing(vec![vec![]; SHEETS])),
                 _ => {
                     let made = (0..SHEETS as u64).map(|index| drawn(name, n, index)).collect();
@@ -632,8 +697,8 @@ fn page(rows: &[Row], missing: &[&str], start: &[f64], start_time: &[f64], each:
         differential tests compare with: linear reading, a successor index, one mask for each action
         formula, the lent table as its memo, a formula with shared parts for a pattern, a stack of waiting
         operators for a line, a hash table of the labels and a sort of the transitions for an .aut text, a
-        search by halving, one through the transitions and one copy for a branch; each call that takes a
-        sheet reads it, as in the driver.",
+        search by halving, one through the transitions and one copy for a branch, a table of just the
+        size for each beginning of a recording; each call that takes a sheet reads it, as in the driver.",
     );
     o += &paragraph(
         "Sheets grow in every part: n states, about 16 n transitions of 4 actions, 8 action entries of any
@@ -680,6 +745,14 @@ fn page(rows: &[Row], missing: &[&str], start: &[f64], start_time: &[f64], each:
         adding a branch proposes it afresh first.",
     );
     o += &paragraph(
+        "Two recordings are searched for the shortest beginning on which a rule fails; n is the number of
+        actions of each, 10, 50 and 127. Good runs are of the machine of `examples/service.sheet`, with its
+        rule of 18 nodes and 3 binders, which fails on none of their 2 n + 2 beginnings: all are judged. One
+        bad early: the rule fails on the first 2 actions of the second recording. The deepest rule has 64
+        nodes and 6 binders, those on which a query nests deepest, with kinds exchanged so that it fails on
+        no beginning. The figures of recordings are less that of the same request with a sheet of no bytes.",
+    );
+    o += &paragraph(
         "Instructions are those of `valgrind --tool=callgrind`; times are the shortest of 9 runs, the programs
         taking turns, and \"in the noise\" stands where what is left after taking away is under 15% of what
         was measured.",
@@ -696,7 +769,7 @@ fn page(rows: &[Row], missing: &[&str], start: &[f64], start_time: &[f64], each:
     for (name, shown, _) in plots(rows) {
         let _ = writeln!(o, "![{shown}]({name})\n");
     }
-    o += &paragraph("\"Growth\" is the factor over the row before, where n is half as large.");
+    o += &paragraph("\"Growth\" is the factor over the row before, where n is half as large; of recordings, where it is 10 or 50.");
     o += "| call | n | driver, instructions | growth | Rust, instructions | growth | ratio | driver, us | Rust, us | ratio of time |\n";
     o += "|---|---:|---:|---:|---:|---:|---:|---:|---:|---:|\n";
     for (i, r) in rows.iter().enumerate() {
@@ -750,6 +823,7 @@ fn plot(rows: &[Row], ops: Range<usize>) -> String {
     o += "<svg xmlns=\"http://www.w3.org/2000/svg\" width=\"960\" height=\"540\" viewBox=\"0 0 960 540\" font-family=\"sans-serif\" font-size=\"13\">\n";
     o += "<rect width=\"960\" height=\"540\" fill=\"#ffffff\"/>\n";
     let good: Vec<&Row> = rows.iter().filter(|r| ops.contains(&r.op) && r.instructions.iter().all(|v| *v > 0.0)).collect();
+    let sizes: BTreeSet<usize> = good.iter().map(|r| r.size).collect();
     let x = |left: f64, n: usize| left + (n as f64 / 8.0).log2() * 92.0;
     // the left panel: instructions
     let low = good.iter().flat_map(|r| r.instructions).fold(f64::INFINITY, f64::min).log10().floor();
@@ -761,7 +835,7 @@ fn plot(rows: &[Row], ops: Range<usize>) -> String {
     let mut frame = |left: f64, title: &str| {
         let _ = writeln!(o, "<text x=\"{}\" y=\"34\" font-size=\"15\" fill=\"#222\">{title}</text>", left - 10.0);
         let _ = writeln!(o, "<line x1=\"{}\" y1=\"370\" x2=\"{}\" y2=\"370\" stroke=\"#444\"/>", left - 10.0, left + 378.0);
-        for (n, _) in SIZES {
+        for &n in &sizes {
             let _ = writeln!(o, "<text x=\"{}\" y=\"390\" text-anchor=\"middle\" fill=\"#444\">{n}</text>", x(left, n));
         }
         let _ = writeln!(o, "<text x=\"{}\" y=\"410\" text-anchor=\"middle\" fill=\"#444\">n</text>", left + 184.0);

@@ -15,6 +15,8 @@ use crate::pattern_check;
 use crate::pattern_gen;
 use crate::patterns;
 use crate::protocol::{self, Request};
+use crate::recording_check;
+use crate::recording_gen;
 use crate::report_check;
 use crate::reports;
 use std::io::{Read, Write};
@@ -295,7 +297,7 @@ pub fn compare(trials: &str, seed: u64, count: u64, numbers: &[u8], shrinking: b
     let (mut turns, mut loops) = (Turns::default(), LoopTally::default());
     let (mut made, mut typed) = (pattern_check::Tally::default(), line_check::Tally::default());
     let (mut reported, mut drawn) = (report_check::Tally::default(), aut_check::Tally::default());
-    let mut parked = branch_check::Tally::default();
+    let (mut parked, mut recorded) = (branch_check::Tally::default(), recording_check::Tally::default());
     let (mut done, mut differences, mut told) = (0u64, 0u64, 0);
     while done < count {
         let n = BATCH.min(count - done);
@@ -319,6 +321,7 @@ pub fn compare(trials: &str, seed: u64, count: u64, numbers: &[u8], shrinking: b
             reported.count(r);
             drawn.count(r);
             parked.count(r);
+            recorded.count(r);
             let want = protocol::expected(r);
             let text = String::from_utf8_lossy(&want);
             loops.count(r, &text);
@@ -391,6 +394,9 @@ pub fn compare(trials: &str, seed: u64, count: u64, numbers: &[u8], shrinking: b
     if numbers.contains(&12) || numbers.contains(&13) {
         println!("{parked}");
     }
+    if numbers.contains(&14) {
+        println!("{recorded}");
+    }
     println!("seed {seed}: {done} requests compared, {differences} differences, {:.1} s", begun.elapsed().as_secs_f64());
     i32::from(differences > 0)
 }
@@ -425,6 +431,9 @@ fn describe(trials: &str, r: &Request) {
         Request::Propose { sheet, branch } => println!("    sheet {sheet:?}\n    branch {branch:?}"),
         Request::Commit { sheet, branch, proposal, out_len, fill } => {
             println!("    sheet {sheet:?}\n    branch {branch:?}, {proposal:?}\n    output of {out_len} bytes {fill}")
+        }
+        Request::Shortest { sheet, first, second } => {
+            println!("    sheet {sheet:?}\n    recordings {first:?} and {second:?}")
         }
     }
     println!("    oracle {}", clip(&protocol::answers(&b)));
@@ -830,6 +839,18 @@ fn candidates(r: &Request) -> Vec<Request> {
                     put(sheet, *branch, *proposal, l);
                 }
             }
+            out
+        }
+        Request::Shortest { sheet, first, second } => {
+            let mut out = Vec::new();
+            let mut put = |sheet: &[u8], first: &[u8], second: &[u8]| {
+                out.push(Request::Shortest { sheet: sheet.to_vec(), first: first.to_vec(), second: second.to_vec() })
+            };
+            smaller_bytes(first).iter().for_each(|run| put(sheet, run, second));
+            smaller_bytes(second).iter().for_each(|run| put(sheet, first, run));
+            smaller_sheets(sheet).iter().for_each(|s| put(s, first, second));
+            recording_gen::lower(first).iter().for_each(|run| put(sheet, run, second));
+            recording_gen::lower(second).iter().for_each(|run| put(sheet, first, run));
             out
         }
     }

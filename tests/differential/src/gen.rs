@@ -6,6 +6,7 @@ use crate::line_gen;
 use crate::oracle::{self, assemble};
 use crate::pattern_gen;
 use crate::protocol::Request;
+use crate::recording_gen;
 use crate::report_gen;
 use crate::reports::ROOM;
 
@@ -945,7 +946,7 @@ pub fn states(r: &mut Rng, sheet: &[u8], count: usize) -> Vec<u8> {
 const WORK: u64 = 60_000;
 
 /// Request number `index` of a seed. The first three are the deepest chain of cells that we know how to make; the next three have
-/// its plan with a loop at the last state but one or at the last.
+/// its plan with a loop at the last state but one or at the last, and the next two its rule on runs as long as they may be.
 pub fn request_at(seed: u64, index: u64, numbers: &[u8]) -> Request {
     let mut r = Rng::new(seed, index);
     let number = [4, 5, 10][index as usize % 3];
@@ -964,6 +965,9 @@ pub fn request_at(seed: u64, index: u64, numbers: &[u8]) -> Request {
             5 => Request::Query { sheet, state: 0, table: vec![0; len] },
             _ => Request::Report { sheet, states, table_len, fill, out_len: ROOM as u16, out_fill: 9 },
         };
+    }
+    if (6..8).contains(&index) && numbers.contains(&14) {
+        return recording_gen::deepest(&mut r);
     }
     request(&mut r, numbers)
 }
@@ -1044,6 +1048,7 @@ fn request(r: &mut Rng, numbers: &[u8]) -> Request {
         11 => aut_gen::request(r),
         12 => branch_gen::propose(r),
         13 => branch_gen::commit(r),
+        14 => recording_gen::request(r),
         _ => {
             let mut b = bodies(r);
             if r.chance(1) {

@@ -1,4 +1,4 @@
-//! Differential tests and a benchmark of the trial driver, against an implementation of documents 01 and 02 (a) to (i) of its own.
+//! Differential tests and a benchmark of the trial driver, against an implementation of documents 01 and 02 (a) to (j) of its own.
 
 mod aut;
 mod aut_check;
@@ -17,6 +17,9 @@ mod pattern_check;
 mod pattern_gen;
 mod patterns;
 mod protocol;
+mod recording_check;
+mod recording_gen;
+mod recordings;
 mod report_check;
 mod report_gen;
 mod reports;
@@ -26,12 +29,13 @@ use std::io::{Read, Write};
 const USAGE: &str = "usage:
   differential vectors DIR                  stored requests of DIR (NAME.stdin, NAME.stdout) against the oracle
   differential selfcheck [--seed N] [--count N]
-                                            the oracle's query, its translated patterns and its reports against its own
-                                            Table 1; its bodies of lines against what the lines say of actions; its plans
-                                            of .aut texts and its sheets with a branch against second readings
-  differential compare TRIALS [--seed N] [--count N] [--requests 1,2,3,4,5,6,7,8,9,10,11,12,13] [--no-shrink]
+                                            the oracle's query, its translated patterns, its reports and its shortest
+                                            beginnings against its own Table 1; its bodies of lines against what the lines
+                                            say of actions; its plans of .aut texts and its sheets with a branch against
+                                            second readings
+  differential compare TRIALS [--seed N] [--count N] [--requests 1,2,3,4,5,6,7,8,9,10,11,12,13,14] [--no-shrink]
                                             made requests, the trial driver against the oracle
-  differential bench TRIALS [--requests 1,2,3,4,5,6,7,8,9,10,11,12,13] [--out DIR]
+  differential bench TRIALS [--requests 1,2,3,4,5,6,7,8,9,10,11,12,13,14] [--out DIR]
                                             instructions and time, the trial driver against the oracle
   differential serve                        answers requests on standard input, as the trial driver does";
 
@@ -45,9 +49,9 @@ fn number(args: &[String], name: &str) -> Option<u64> {
 
 fn requests(args: &[String]) -> Vec<u8> {
     option(args, "--requests")
-        .unwrap_or_else(|| "1,2,3,4,5,6,7,8,9,10,11,12,13".into())
+        .unwrap_or_else(|| "1,2,3,4,5,6,7,8,9,10,11,12,13,14".into())
         .split(',')
-        .map(|v| v.parse().ok().filter(|n| (1..=13).contains(n)).unwrap_or_else(|| panic!("--requests: {v}")))
+        .map(|v| v.parse().ok().filter(|n| (1..=14).contains(n)).unwrap_or_else(|| panic!("--requests: {v}")))
         .collect()
 }
 
@@ -71,13 +75,14 @@ fn run(args: Vec<String>) -> i32 {
             let seed = number(&args, "--seed").unwrap_or_else(compare::clock);
             let count = number(&args, "--count").unwrap_or(5000);
             // each with how many times over
-            let checks: [(fn(u64, u64) -> i32, u64); 6] = [
+            let checks: [(fn(u64, u64) -> i32, u64); 7] = [
                 (compare::selfcheck, 1),
                 (pattern_check::selfcheck, 4),
                 (line_check::selfcheck, 20),
                 (report_check::selfcheck, 1),
                 (aut_check::selfcheck, 1),
                 (branch_check::selfcheck, 1),
+                (recording_check::selfcheck, 1),
             ];
             checks.iter().map(|(check, times)| check(seed, times * count)).find(|&code| code != 0).unwrap_or(0)
         }

@@ -452,7 +452,7 @@ pub fn loop_reachable_states(p: &Parts) -> u128 {
 struct Query<'a> {
     p: &'a Parts<'a>,
     first: [u16; 130],
-    masks: Vec<Mask>,
+    masks: &'a [Mask],
     table: &'a mut [u8],
     visits: usize,
 }
@@ -522,11 +522,17 @@ pub fn query(b: &[u8], state: u8, table: &mut [u8]) -> Result<(bool, usize), Ref
     if stored_count(table, cells) != filled {
         return Err((35, 0));
     }
-    let mut q = Query { p, first, masks: masks(p), table, visits: 0 };
+    let mut q = Query { p, first, masks: &masks(p), table, visits: 0 };
     let verdict = q.cell(0, 0, state as usize);
     let visits = q.visits;
     table[cells..cells + 4].copy_from_slice(&(filled + visits as u32).to_le_bytes());
     Ok((verdict, visits))
+}
+
+/// The verdict at a state from which no loop can be reached, by a table of its own.
+pub fn verdict(p: &Parts, masks: &[Mask], state: usize) -> bool {
+    let mut table = vec![0; p.cells()];
+    Query { p, first: successors(p), masks, table: &mut table, visits: 0 }.cell(0, 0, state)
 }
 
 pub fn write(plan: &[u8], acts: &[u8], rule: &[u8], out: &mut [u8]) -> Result<usize, Refusal> {

@@ -1,6 +1,7 @@
 //! The trial driver's protocol (TRIALS.md): requests from bytes, and the lines that answer each.
 
 use crate::branches::{self, Branch, Proposal};
+use crate::recordings::{self, Which};
 use crate::{aut, lines, oracle, patterns, reports};
 use std::io::Write;
 
@@ -19,6 +20,7 @@ pub enum Request {
     Aut { text: Vec<u8>, out_len: u16, fill: u8 },
     Propose { sheet: Vec<u8>, branch: Branch },
     Commit { sheet: Vec<u8>, branch: Branch, proposal: Proposal, out_len: u16, fill: u8 },
+    Shortest { sheet: Vec<u8>, first: Vec<u8>, second: Vec<u8> },
 }
 
 fn blob(out: &mut Vec<u8>, b: &[u8]) {
@@ -42,6 +44,7 @@ impl Request {
             Request::Aut { .. } => 11,
             Request::Propose { .. } => 12,
             Request::Commit { .. } => 13,
+            Request::Shortest { .. } => 14,
         }
     }
 
@@ -104,6 +107,7 @@ impl Request {
                 out.extend(out_len.to_le_bytes());
                 out.push(*fill);
             }
+            Request::Shortest { sheet, first, second } => [sheet, first, second].into_iter().for_each(|b| blob(out, b)),
         }
     }
 }
@@ -123,6 +127,7 @@ pub enum View<'a> {
     Aut { text: &'a [u8], out_len: usize, fill: u8 },
     Propose { sheet: &'a [u8], branch: Branch },
     Commit { sheet: &'a [u8], branch: Branch, proposal: Proposal, out_len: usize, fill: u8 },
+    Shortest { sheet: &'a [u8], first: &'a [u8], second: &'a [u8] },
 }
 
 pub struct Input<'a> {
@@ -188,6 +193,7 @@ impl<'a> Input<'a> {
                 out_len: self.word()?,
                 fill: self.byte()?,
             },
+            14 => View::Shortest { sheet: self.blob()?, first: self.blob()?, second: self.blob()? },
             _ => return None,
         })
     }
@@ -309,6 +315,16 @@ pub fn answer(request: &View, out: &mut Vec<u8>) {
             };
             let _ = writeln!(out, "commit {n} {p} {len}");
             hex("out", &buffer, out);
+            Ok(())
+        }
+        View::Shortest { sheet, first, second } => {
+            let ((n, p), which, part) = match recordings::shortest(sheet, first, second) {
+                Ok(Some((Which::First, part))) => ((0, 0), "first", part),
+                Ok(Some((Which::Second, part))) => ((0, 0), "second", part),
+                Ok(None) => ((0, 0), "none", &[][..]),
+                Err(r) => (r, "none", &[][..]),
+            };
+            hex(&format!("shortest {n} {p} {which}"), part, out);
             Ok(())
         }
     };

@@ -14,18 +14,13 @@ use Rattle.sheet.specs.TransitionSystem.{LabelledTransition, transitionOf, plan
 use Rattle.sheet.specs.WellFormed.{WellFormedPlan}
 use Rattle.sheet.proofs.TransitionOrder.{precedes-irreflexive, precedes-transitive, precedes-total}
 use Rattle.sheet.proofs.TransitionSystem.{Stands, member-at, at-member}
-use Rattle.sheet.proofs.checks.Bools.{differ, holds, fails}
+use Rattle.sheet.proofs.checks.Bools.{differ, holds, fails, together}
 use Rattle.sheet.proofs.checks.Checks.{and-parts, and-parts₃, all}
 use Rattle.sheet.proofs.checks.Lowest.{lowest-below, lowest-found}
 use Rattle.branches.specs.Branches.{branchInRange, sameTransition, present, notFull, branchFits, insertionPlace}
 use Rattle.branches.specs.BranchesCorrect.{Unfit}
 use Rattle.branches.specs.internal.Placing.{standsAt}
 use Rattle.branches.proofs.plans.Places.{rise-far, at-place, place-is}
-
--- two tests that hold together are one
-together : (a b : Bool) → (a ≡ true → b ≡ true) → (b ≡ true → a ≡ true) → a ≡ b
-together true b f g = sym (f refl)
-together false b f g = sym (fails b (λ q. differ false (g q) refl))
 
 -- the test for one and the same transition says so
 same-equal : (u t : LabelledTransition) → sameTransition u t ≡ true → u ≡ t
@@ -99,11 +94,12 @@ module _ (p : List ℕ) (t : LabelledTransition) where
     -- in a plan in order a transition that is present stands at its place
     pub present-at-place : present p t ≡ standsAt p t (insertionPlace p t)
     present-at-place =
-        together (present p t) (standsAt p t place)
-        (λ q. at-own-place (member-at p t (found q)))
-        (λ q.
-        let b = and-parts (ltb place (transitionCount p)) (isBranch place) q in
-        present-member .1 (member place (ltb-true place (transitionCount p) (b .0)) (same-equal (transitionOf p place) t (b .1))))
+        together (present p t) (standsAt p t place) (
+          λ q. at-own-place (member-at p t (found q)),
+          λ q.
+              let b = and-parts (ltb place (transitionCount p)) (isBranch place) q in
+              present-member .1 (member place (ltb-true place (transitionCount p) (b .0)) (same-equal (transitionOf p place) t (b .1))),
+        )
 
     -- one that is not present comes before those from its place on
     pub after-place : (List·Memᴰ t (planOf p .transitions) → ⊥) → (i : ℕ) → insertionPlace p t ≤ i → i < transitionCount p

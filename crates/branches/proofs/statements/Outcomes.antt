@@ -19,7 +19,7 @@ use Rattle.sheet.specs.declared.Check.{Check}
 use Rattle.sheet.specs.declared.Check.the-variants.{Passed, Failed}
 use Rattle.sheet.proofs.acceptance.Numbers.{low-refusal, refused-number}
 use Rattle.sheet.proofs.acceptance.Order.{given-in-order}
-use Rattle.sheet.proofs.acceptance.Sheet.{accepted-iff}
+use Rattle.sheet.proofs.acceptance.Sheet.{accepted-iff, not-refused}
 use Rattle.sheet.proofs.checks.Bools.{differ}
 use Rattle.graph.proofs.looptest.LoopFree.{free-exactly-at, loop-reachable}
 use Rattle.branches.specs.Branches.{branchFits, planWith}
@@ -66,14 +66,10 @@ pub record Stopped (s : List ℕ) (t : LabelledTransition) (n : ℕ) : Type 0 wh
 module _ (s : List ℕ) (t : LabelledTransition) where
   -- ---- the cases shut one another out
 
-  -- a sheet that keeps the rules is not refused by the reader
-  clash : {x : Refusal} → sheetCheck s ≡ Failed x → WellFormedSheet s → ⊥
-  clash {x} e k = let q : Passed ≡ Failed x = sym (accepted-iff s .1 k) ∙ e in let z : _≡_ {A = ℕ} 0 1 = cc in omega arith
-
   pub stopped-unread : {x : Refusal} → sheetCheck s ≡ Failed x → Stopped s t (numberOf x)
   stopped-unread {x} e =
       record {
-        not-added = λ a. clash e (a .fitting .accepted);
+        not-added = λ a. not-refused s e (a .fitting .accepted);
         not-none = λ h. omega (arith, refused-number x);
         not-short = λ h. omega (arith, low-refusal s e);
         not-differing = λ h. omega (arith, low-refusal s e);
@@ -149,16 +145,16 @@ module _ (s : List ℕ) (t : LabelledTransition) where
   later-high differing = inr (omega arith)
 
   read-high : {n p : ℕ} → Numbered s t n p → WellFormedSheet s → (n ≡ 0) ⊎ (10 < n)
-  read-high (unread x e) k = absurd (clash e k)
+  read-high (unread x e) k = absurd (not-refused s e k)
   read-high (unfit j u) k = inr (omega arith)
   read-high (looping f l) k = inr (omega arith)
   read-high (taken a z) k = later-high z
 
   refusal-given : {n p : ℕ} → Numbered s t n p → (y : Refusal) → sheetCheck s ≡ Failed y → (n ≡ numberOf y) × (p ≡ placeOf y)
   refusal-given (unread x e) y f = let same : x ≡ y = ap refusalIn (sym e ∙ f) in (ap numberOf same, ap placeOf same)
-  refusal-given (unfit k u) y f = absurd (clash f k)
-  refusal-given (looping g l) y f = absurd (clash f (g .accepted))
-  refusal-given (taken a z) y f = absurd (clash f (a .fitting .accepted))
+  refusal-given (unfit k u) y f = absurd (not-refused s f k)
+  refusal-given (looping g l) y f = absurd (not-refused s f (g .accepted))
+  refusal-given (taken a z) y f = absurd (not-refused s f (a .fitting .accepted))
 
   pub in-order : {n p : ℕ} → Numbered s t n p → GivenInOrder s n p
   in-order {n} {p} c = given-in-order s n p (refusal-given c) (λ e. read-high c (accepted-iff s .0 e))
@@ -169,19 +165,19 @@ module _ (s : List ℕ) (t : LabelledTransition) where
   not-later differing = (λ h. omega arith, λ h. omega arith)
 
   pub forty : {n p : ℕ} → Numbered s t n p → (n ≡ 40) ↔ (WellFormedSheet s × Unfit (planBody s) t)
-  forty (unread x e) = (λ h. absurd (omega (arith, low-refusal s e)), λ g. absurd (clash e (g .0)))
+  forty (unread x e) = (λ h. absurd (omega (arith, low-refusal s e)), λ g. absurd (not-refused s e (g .0)))
   forty (unfit k u) = (λ h. (k, u), λ g. refl)
   forty (looping f l) = (λ h. absurd (omega arith), λ g. absurd (f .fits (g .1)))
   forty (taken a z) = (λ h. absurd (not-later z .0 h), λ g. absurd (a .fitting .fits (g .1)))
 
   pub twelve : {n p : ℕ} → Numbered s t n p → (n ≡ 12) ↔ (Fitting s t × LoopWith s t)
-  twelve (unread x e) = (λ h. absurd (omega (arith, low-refusal s e)), λ g. absurd (clash e (g .0 .accepted)))
+  twelve (unread x e) = (λ h. absurd (omega (arith, low-refusal s e)), λ g. absurd (not-refused s e (g .0 .accepted)))
   twelve (unfit k u) = (λ h. absurd (omega arith), λ g. absurd (g .0 .fits u))
   twelve (looping f l) = (λ h. (f, l), λ g. refl)
   twelve (taken a z) = (λ h. absurd (not-later z .1 h), λ g. absurd (a .no-loop (g .1)))
 
   pub place-none : {n p : ℕ} → Numbered s t n p → WellFormedSheet s → p ≡ 0
-  place-none (unread x e) k = absurd (clash e k)
+  place-none (unread x e) k = absurd (not-refused s e k)
   place-none (unfit j u) k = refl
   place-none (looping f l) k = refl
   place-none (taken a z) k = refl

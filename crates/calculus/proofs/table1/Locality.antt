@@ -1,11 +1,12 @@
 -- Monotonicity and locality of the meanings: both are the order of the evaluated sets on a region.
 use Prim.Native.Nat.{ℕ, _<_}
-use mathlib.Core.Path.{_≡_, refl, sym, _∙_}
-use mathlib.Core.Bool.{Bool, true, false}
+use mathlib.Core.Path.{_≡_, sym, _∙_}
+use mathlib.Core.Bool.{Bool, true}
 use mathlib.Core.Logic.{_↔_}
 use mathlib.Core.List.{List·Memᴰ}
 use Rattle.calculus.specs.Formulas.{Formula}
 use Rattle.sheet.specs.TransitionSystem.{LabelledTransition, Plan, TransitionsInRange}
+use Rattle.sheet.proofs.checks.Bools.{together}
 use Rattle.calculus.specs.Meaning.{Holds}
 use Rattle.calculus.proofs.table1.Sets.{Within, Below}
 use Rattle.calculus.specs.Eval.{eval}
@@ -41,9 +42,4 @@ module _ {P : Plan} (w : TransitionsInRange P) where
 -- The same for the evaluated sets, as an equation.
 pub eval-local : {P : Plan} {R : ℕ → Type 0} → Region P R → (φ : Formula) {ρ σ : ℕ → ℕ → Bool} → Agree R φ ρ σ → (s : ℕ) → R s → eval P φ ρ s ≡ eval P φ σ s
 eval-local {P} region φ {ρ} {σ} a s r =
-    same (eval P φ ρ s) (eval P φ σ s) (eval-ordered region φ (agree-ordered a) .at s r) (eval-ordered region φ (agree-ordered (agree-sym a)) .at s r)
-  where
-    same : (a b : Bool) → (a ≡ true → b ≡ true) → (b ≡ true → a ≡ true) → a ≡ b
-    same true b f g = sym (f refl)
-    same false true f g = g refl
-    same false false f g = refl
+    together (eval P φ ρ s) (eval P φ σ s) (eval-ordered region φ (agree-ordered a) .at s r, eval-ordered region φ (agree-ordered (agree-sym a)) .at s r)

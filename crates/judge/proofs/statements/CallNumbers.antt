@@ -22,7 +22,7 @@ use Rattle.sheet.specs.declared.Check.the-variants.{Passed, Failed}
 use Rattle.sheet.specs.RefusalOrder.{GivenInOrder}
 use Rattle.sheet.proofs.acceptance.Order.{given-in-order}
 use Rattle.sheet.proofs.acceptance.Numbers.{low-refusal, refused-number}
-use Rattle.sheet.proofs.acceptance.Sheet.{accepted-iff}
+use Rattle.sheet.proofs.acceptance.Sheet.{accepted-iff, not-refused}
 use Rattle.sheet.proofs.checks.Checks.{none-found}
 use Rattle.sheet.proofs.checks.Lowest.{lowest-bound, lowest-found}
 use Rattle.graph.specs.Loops.{LoopReachable}
@@ -62,10 +62,6 @@ module _ (s : List ℕ) where
 
   passed : WellFormedSheet s → sheetCheck s ≡ Passed
   passed k = accepted-iff s .1 k
-
-  -- a sheet that keeps the rules is not refused by the reader
-  clash : {x : Refusal} → sheetCheck s ≡ Failed x → WellFormedSheet s → ⊥
-  clash {x} e k = let q : Passed ≡ Failed x = sym (passed k) ∙ e in let z : _≡_ {A = ℕ} 0 1 = cc in omega arith
 
   module _ (state : ℕ) (t : List ℕ) where
     abbrev plan : List ℕ
@@ -129,7 +125,7 @@ module _ (s : List ℕ) where
     eleven-to (fine q f) h = absurd (omega arith)
 
     eleven-from : {n p : ℕ} → QueryCase s state t n p → WellFormedSheet s × (stateCount plan ≤ state) → n ≡ 11
-    eleven-from (unread x e) h = absurd (clash e (h .0))
+    eleven-from (unread x e) h = absurd (not-refused s e (h .0))
     eleven-from (no-state k l) h = refl
     eleven-from (looping q w) h = absurd (omega (arith, q .below, h .1))
     eleven-from (short q l) h = absurd (omega (arith, q .there .below, h .1))
@@ -147,7 +143,7 @@ module _ (s : List ℕ) where
     twelve-to (fine q f) h = absurd (omega arith)
 
     twelve-from : {n p : ℕ} → QueryCase s state t n p → StateThere s state × LoopReachable (successors plan) state → n ≡ 12
-    twelve-from (unread x e) h = absurd (clash e (h .0 .accepted))
+    twelve-from (unread x e) h = absurd (not-refused s e (h .0 .accepted))
     twelve-from (no-state k l) h = absurd (omega (arith, h .0 .below))
     twelve-from (looping q w) h = refl
     twelve-from (short q l) h = absurd (q .none (h .1))
@@ -165,7 +161,7 @@ module _ (s : List ℕ) where
     twenty-to (fine q f) h = absurd (omega arith)
 
     twenty-from : {n p : ℕ} → QueryCase s state t n p → NoLoopAhead s state × (length t < tableBytes s) → n ≡ 20
-    twenty-from (unread x e) h = absurd (clash e (h .0 .there .accepted))
+    twenty-from (unread x e) h = absurd (not-refused s e (h .0 .there .accepted))
     twenty-from (no-state k l) h = absurd (omega (arith, h .0 .there .below))
     twenty-from (looping q w) h = absurd (h .0 .none w)
     twenty-from (short q l) h = refl
@@ -183,7 +179,7 @@ module _ (s : List ℕ) where
     twenty-one-to (fine q f) h = absurd (omega arith)
 
     twenty-one-from : {n p : ℕ} → QueryCase s state t n p → TableThere s state t × ((i : ℕ) × (i < cellBytes s) × (2 < byteAt t i)) → n ≡ 21
-    twenty-one-from (unread x e) h = absurd (clash e (h .0 .free .there .accepted))
+    twenty-one-from (unread x e) h = absurd (not-refused s e (h .0 .free .there .accepted))
     twenty-one-from (no-state k l) h = absurd (omega (arith, h .0 .free .there .below))
     twenty-one-from (looping q w) h = absurd (h .0 .free .none w)
     twenty-one-from (short q l) h = absurd (omega (arith, h .0 .long))
@@ -201,7 +197,7 @@ module _ (s : List ℕ) where
     thirty-five-to (fine q f) h = absurd (omega arith)
 
     thirty-five-from : {n p : ℕ} → QueryCase s state t n p → CellsRight s state t × (storedCount s t ≢ filledCells s t) → n ≡ 35
-    thirty-five-from (unread x e) h = absurd (clash e (h .0 .there .free .there .accepted))
+    thirty-five-from (unread x e) h = absurd (not-refused s e (h .0 .there .free .there .accepted))
     thirty-five-from (no-state k l) h = absurd (omega (arith, h .0 .there .free .there .below))
     thirty-five-from (looping q w) h = absurd (h .0 .there .free .none w)
     thirty-five-from (short q l) h = absurd (omega (arith, h .0 .there .long))
@@ -219,7 +215,7 @@ module _ (s : List ℕ) where
     none-to (fine q f) h = (q, f)
 
     none-from : {n p : ℕ} → QueryCase s state t n p → CellsRight s state t × (storedCount s t ≡ filledCells s t) → n ≡ 0
-    none-from (unread x e) h = absurd (clash e (h .0 .there .free .there .accepted))
+    none-from (unread x e) h = absurd (not-refused s e (h .0 .there .free .there .accepted))
     none-from (no-state k l) h = absurd (omega (arith, h .0 .there .free .there .below))
     none-from (looping q w) h = absurd (h .0 .there .free .none w)
     none-from (short q l) h = absurd (omega (arith, h .0 .there .long))
@@ -229,16 +225,16 @@ module _ (s : List ℕ) where
 
     unreadable-case : {n p : ℕ} → QueryCase s state t n p → (y : Refusal) → sheetCheck s ≡ Failed y → (n ≡ numberOf y) × (p ≡ placeOf y)
     unreadable-case (unread x e) y f = let same : x ≡ y = ap refusalIn (sym e ∙ f) in (ap numberOf same, ap placeOf same)
-    unreadable-case (no-state k l) y f = absurd (clash f k)
-    unreadable-case (looping q w) y f = absurd (clash f (q .accepted))
-    unreadable-case (short q l) y f = absurd (clash f (q .there .accepted))
-    unreadable-case (bad-byte q i l b) y f = absurd (clash f (q .free .there .accepted))
-    unreadable-case (miscounted q g) y f = absurd (clash f (q .there .free .there .accepted))
-    unreadable-case (fine q g) y f = absurd (clash f (q .there .free .there .accepted))
+    unreadable-case (no-state k l) y f = absurd (not-refused s f k)
+    unreadable-case (looping q w) y f = absurd (not-refused s f (q .accepted))
+    unreadable-case (short q l) y f = absurd (not-refused s f (q .there .accepted))
+    unreadable-case (bad-byte q i l b) y f = absurd (not-refused s f (q .free .there .accepted))
+    unreadable-case (miscounted q g) y f = absurd (not-refused s f (q .there .free .there .accepted))
+    unreadable-case (fine q g) y f = absurd (not-refused s f (q .there .free .there .accepted))
 
     -- of an accepted sheet the number is 0 or above 10
     accepted-case : {n p : ℕ} → QueryCase s state t n p → WellFormedSheet s → (n ≡ 0) ⊎ (10 < n)
-    accepted-case (unread x e) k = absurd (clash e k)
+    accepted-case (unread x e) k = absurd (not-refused s e k)
     accepted-case (no-state j l) k = inr (omega arith)
     accepted-case (looping q w) k = inr (omega arith)
     accepted-case (short q l) k = inr (omega arith)
@@ -247,7 +243,7 @@ module _ (s : List ℕ) where
     accepted-case (fine q f) k = inl refl
 
     place-zero : {n p : ℕ} → QueryCase s state t n p → WellFormedSheet s → p ≡ 0
-    place-zero (unread x e) k = absurd (clash e k)
+    place-zero (unread x e) k = absurd (not-refused s e k)
     place-zero (no-state j l) k = refl
     place-zero (looping q w) k = refl
     place-zero (short q l) k = refl
@@ -313,10 +309,10 @@ module _ (s : List ℕ) where
           let same : u ≡ t = left-is (Failed x) (clear-unread x e) in
           record {
             unreadable = λ y f. report-is (Failed y) (clear-unread y f);
-            in-order = ordered (λ f. absurd (clash e (kept f)));
-            twenty = (λ h. absurd (omega (arith, low-refusal s e)), λ h. absurd (clash e (h .0)));
-            done = (λ h. absurd (omega (arith, refused-number x)), λ h. absurd (clash e (h .0)));
-            place = λ k. absurd (clash e k);
+            in-order = ordered (λ f. absurd (not-refused s e (kept f)));
+            twenty = (λ h. absurd (omega (arith, low-refusal s e)), λ h. absurd (not-refused s e (h .0)));
+            done = (λ h. absurd (omega (arith, refused-number x)), λ h. absurd (not-refused s e (h .0)));
+            place = λ k. absurd (not-refused s e k);
             cleared = λ h. absurd (omega (arith, refused-number x));
             after = λ h. absurd (omega (arith, refused-number x));
             length-kept = ap length same;
@@ -328,7 +324,7 @@ module _ (s : List ℕ) where
           let n : reportedClear r .number ≡ 20 = number-is (Failed TableShort) (clear-short k h) in
           let same : u ≡ t = left-is (Failed TableShort) (clear-short k h) in
           record {
-            unreadable = λ y f. absurd (clash f k);
+            unreadable = λ y f. absurd (not-refused s f k);
             in-order = ordered (λ f. inr (omega arith));
             twenty = (λ g. (k, h), λ g. n);
             done = (λ g. absurd (omega arith), λ g. absurd (omega (arith, g .1)));
@@ -344,7 +340,7 @@ module _ (s : List ℕ) where
           let n : reportedClear r .number ≡ 0 = number-is Passed (clear-fits k h) in
           let same : u ≡ tableCleared s t = q .1 .1 in
           record {
-            unreadable = λ y f. absurd (clash f k);
+            unreadable = λ y f. absurd (not-refused s f k);
             in-order = ordered (λ f. inl n);
             twenty = (λ g. absurd (omega arith), λ g. absurd (omega (arith, g .1)));
             done = (λ g. (k, h), λ g. n);

@@ -26,6 +26,7 @@ use Rattle.calculus.proofs.table1.Decide.{decide}
 use Rattle.sheet.proofs.TransitionSystem.{plan-in-range}
 use Rattle.calculus.proofs.decoding.Nodes.{false-node, true-node, or-node, and-node, some-node, every-node, variable-node, least-node, greatest-node}
 use Rattle.sheet.proofs.nodes.Children.{node-subtree}
+use Rattle.sheet.proofs.checks.Bools.{together}
 use Rattle.calculus.proofs.decoding.Variables.{Above, not-binder, is-binder, above-next, above-second}
 use Rattle.rows.specs.Rows.{Row, joined, value}
 use Rattle.graph.specs.LoopTest.{settled}
@@ -42,11 +43,6 @@ use Rattle.rows.proofs.systems.Changed.{joined-constant}
 use Rattle.rows.proofs.solver.JoinedValues.{one-joined, or-joined, and-joined}
 use Rattle.judge.proofs.truth.RightContexts.{ownSets, own-fixed, Lower, lower-successor, Right, own-right, root-right, right-child, right-lower, right-body}
 use Rattle.graph.proofs.looptest.Height.{height}
-
-iff-same : (x y : Bool) → (x ≡ true) ↔ (y ≡ true) → x ≡ y
-iff-same true y h = sym (h .0 refl)
-iff-same false true h = h .1 refl
-iff-same false false h = refl
 
 module _ (p a r : List ℕ) where
   -- what is shown of the cells of rank below f
@@ -171,14 +167,14 @@ module _ {p a r : List ℕ} (kept : WellFormedBodies p a r) (f : ℕ) (rest : So
           by-row (binder-row p a (kept .rule-kept) m n s (v .node-below) k) g
           (λ e. one-joined (value (rows p a r) f) _
           ∙ entry (e .0) (body (remove D s) (less (least x φ) g) (ap (λ (b : Bool). D s && not b) (eq-eqb s s refl) ∙ and-false (D s) ∙ ap (λ (i : ℕ). eqb i 8) (sym q)))
-          ∙ sym (iff-same _ _ (eval-least-unfold (plan-in-range p (kept .plan-kept)) x φ ρ s (v .state-below))))
+          ∙ sym (together _ _ (eval-least-unfold (plan-in-range p (kept .plan-kept)) x φ ρ s (v .state-below))))
       go (inr q) =
           let g = greatest-node (kept .rule-kept) a n (v .node-below) q in
           let D = eval (planOf p) (greatest x φ) ρ in
           by-row (binder-row p a (kept .rule-kept) m n s (v .node-below) k) g
           (λ e. one-joined (value (rows p a r) f) _
           ∙ entry (e .0) (body (insert D s) (more (greatest x φ) g) (ap (λ (b : Bool). D s || b) (eq-eqb s s refl) ∙ or-true (D s) ∙ ap (λ (i : ℕ). eqb i 8) (sym q)))
-          ∙ sym (iff-same _ _ (eval-greatest-unfold (plan-in-range p (kept .plan-kept)) x φ ρ s (v .state-below))))
+          ∙ sym (together _ _ (eval-greatest-unfold (plan-in-range p (kept .plan-kept)) x φ ρ s (v .state-below))))
 
 module _ {p a r : List ℕ} (kept : WellFormedBodies p a r) where
   step : (f : ℕ) → Solved p a r f → {m n s e : ℕ} {ρ : ℕ → ℕ → Bool} → Subtree (entryCount a) r n e → e ≤ nodeCount r → (v : Valid p a r (cell m n s)) (h : rank p r (cell m n s) < suc f) (w : Right p a r m n s ρ)

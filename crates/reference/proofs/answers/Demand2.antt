@@ -19,7 +19,7 @@ use Rattle.sheet.specs.Refusals.{numberOf}
 use Rattle.sheet.specs.WellFormed.{WellFormedSheet}
 use Rattle.sheet.proofs.acceptance.Numbers.{low-refusal, refused-number}
 use Rattle.sheet.proofs.acceptance.Order.{given-in-order}
-use Rattle.sheet.proofs.acceptance.Sheet.{accepted-iff}
+use Rattle.sheet.proofs.acceptance.Sheet.{not-refused}
 use Rattle.sheet.proofs.acceptance.Parts.{sheet-kept}
 use Rattle.sheet.proofs.roundtrip.Promises.{round-trip}
 use Rattle.calculus.specs.MeetingMask.{bit}
@@ -102,12 +102,9 @@ module _ (s : List ℕ) where
           ]
       by-check (Failed x) e =
           let n : referenceReportOf s .number ≡ numberOf x = number (promised-refused x e) in (
-            (λ q. absurd (omega (arith, refused-number x)), λ w. absurd (clash x e (w .0))),
-            (λ q. absurd (omega (arith, low-refusal s e)), λ w. absurd (clash x e (w .0))),
+            (λ q. absurd (omega (arith, refused-number x)), λ w. absurd (not-refused s e (w .0))),
+            (λ q. absurd (omega (arith, low-refusal s e)), λ w. absurd (not-refused s e (w .0))),
           )
-        where
-          clash : (x : Refusal) → sheetCheck s ≡ Failed x → WellFormedSheet s → ⊥
-          clash x e w = let f : Passed ≡ Failed x = sym (accepted-iff s .1 w) ∙ e in let z : _≡_ {A = ℕ} 0 1 = cc in omega arith
 
 -- a report with a refusal's number has the word 0
 refused-word : (r : Reference) → reportedReference r .number ≢ 0 → reportedReference r .word ≡ 0

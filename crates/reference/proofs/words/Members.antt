@@ -11,6 +11,7 @@ use Rattle.calculus.proofs.table1.Modal.{or-true}
 use Rattle.reference.specs.Reference.{wordUpTo}
 use Rattle.reference.specs.internal.Evaluating.{Members}
 use Rattle.reference.proofs.words.Words.{bit-or, bit-and, bit-flip, bit-zero, bit-ones, word-same, word-of-bits}
+use Rattle.sheet.proofs.checks.Bools.{together}
 
 module _ {S : ℕ} where
   -- the same set by another name
@@ -51,9 +52,4 @@ module _ {S : ℕ} where
 
   -- a word is known by its members
   pub members-word : {w : ℕ} {Q : ℕ → Type 0} (U : ℕ → Bool) → Members S w Q → ((t : ℕ) → t < S → Q t ↔ (U t ≡ true)) → w ≡ wordUpTo S U
-  members-word {w} U m h = word-of-bits S w (m .small) ∙ word-same S (bit w) U (λ t l. same (bit w t) (U t) (λ b. h t l .0 (m .sound t l b)) (λ u. m .complete t l (h t l .1 u)))
-    where
-      same : (a b : Bool) → (a ≡ true → b ≡ true) → (b ≡ true → a ≡ true) → a ≡ b
-      same true b f g = sym (f refl)
-      same false true f g = g refl
-      same false false f g = refl
+  members-word {w} U m h = word-of-bits S w (m .small) ∙ word-same S (bit w) U (λ t l. together (bit w t) (U t) (λ b. h t l .0 (m .sound t l b), λ u. m .complete t l (h t l .1 u)))

@@ -1,6 +1,6 @@
 -- A sheet is accepted exactly when it keeps every rule of document 01's "The sheet".
 use Prim.Native.Nat.{ℕ, _+_, _≤_}
-use mathlib.Core.Path.{_≡_, refl}
+use mathlib.Core.Path.{_≡_, refl, sym, _∙_}
 use mathlib.Core.Bool.{Bool, true, _&&_}
 use mathlib.Core.List.{List}
 use mathlib.Core.Logic.{_↔_}
@@ -17,6 +17,7 @@ use Rattle.sheet.specs.Reading.{planCheck, actionsCheck, ruleCheck, bodi
 use Rattle.sheet.specs.WellFormed.{WellFormedBodies, WellFormedSheet}
 use Rattle.sheet.specs.Acceptance.{AcceptedIff, BodiesAcceptedIff}
 use Rattle.sheet.specs.declared.Bodies.{Bodies}
+use Rattle.sheet.specs.declared.Refusal.{Refusal}
 use Rattle.sheet.specs.declared.Refusal.the-variants.{TooShort, Heading, Contents}
 use Rattle.sheet.specs.declared.Check.{Check}
 use Rattle.sheet.specs.declared.Check.the-variants.{Passed, Failed}
@@ -160,6 +161,10 @@ module _ (s : List ℕ) where
 
 pub accepted-iff : AcceptedIff
 accepted-iff s = (kept s, passes s)
+
+-- a sheet that keeps the rules is not refused
+pub not-refused : (s : List ℕ) {x : Refusal} → sheetCheck s ≡ Failed x → WellFormedSheet s → ⊥
+not-refused s {x} e k = let q : Passed ≡ Failed x = sym (accepted-iff s .1 k) ∙ e in let z : _≡_ {A = ℕ} 0 1 = cc in omega arith
 
 answered : (b : Bodies) (c : Check) → (answerRead b c ≡ Accepted b) ↔ (c ≡ Passed)
 answered b Passed = (λ q. refl, λ q. refl)

@@ -1,0 +1,5 @@
+pub mod RunAsSheet
+pub mod Beginnings
+pub mod Outcomes
+pub mod OwnPlan
+pub mod RecordingsCorrect

@@ -1,0 +1,3 @@
+pub mod Chaining
+pub mod Judging
+pub mod Searching
