@@ -8,8 +8,8 @@ NEW := target/branched.sheet
 STORED := target/stored
 DIFFERENTIAL := cd tests/differential && cargo run --release --offline --quiet --
 
-.PHONY: gate check examples reports sheet branch shortest trials store runs lines long texts deep \
-	count differential memory benchmark help
+.PHONY: gate check examples reports sheet branch shortest audit trials store runs lines tables \
+	long texts deep count differential memory benchmark help
 
 gate: ## prove all from nothing, try the must-fail edits, run the programs (rt ci)
 	.ci/run
@@ -23,6 +23,7 @@ examples: ## judge the sheets of examples/ and others, make some anew, and compa
 	python3 tests/sheets.py texts examples $(DRIVER)
 	python3 tests/sheets.py branches examples $(DRIVER)
 	python3 tests/sheets.py recordings examples $(DRIVER)
+	python3 tests/sheets.py tables examples $(DRIVER)
 
 reports: ## print reports on about a thousand inputs, and compare with what is right
 	rt check counter_report
@@ -40,6 +41,10 @@ shortest: ## say on which beginning of two recordings SHEET's rule fails first, 
 	rt check trials
 	python3 tests/shortest_run.py '$(SHEET)' '$(FIRST)' '$(SECOND)'
 
+audit: ## say whether the filled table TABLE is right for SHEET, and if not, why
+	rt check trials
+	python3 tests/audit_table.py '$(SHEET)' '$(TABLE)'
+
 trials: ## say whether the stored trials are what tests/cases.py makes
 	mkdir -p $(STORED)
 	python3 tests/cases.py store $(STORED)
@@ -55,6 +60,9 @@ runs: ## compare what 20,000 patterns become with what they say of runs
 
 lines: ## compare what 20,000 lines become with what they say of actions
 	python3 tests/cases.py lines 20000
+
+tables: ## compare what is said of 20,000 filled tables with the solutions of their rows
+	python3 tests/cases.py tables 20000
 
 long: ## read lines of a million words and parentheses on a small stack
 	rt check action_line

@@ -1,7 +1,7 @@
 #!/usr/bin/env python3
 """The requests of the trial driver (docs/TRIALS.md) and what they must give, computed from
-docs/FORMAT.md, docs/PATTERNS.md, docs/LINES.md, docs/REPORT.md, docs/AUT.md, docs/BRANCHES.md and
-docs/RECORDINGS.md and not by the crates.
+docs/FORMAT.md, docs/PATTERNS.md, docs/LINES.md, docs/REPORT.md, docs/AUT.md, docs/BRANCHES.md,
+docs/RECORDINGS.md and docs/AUDIT.md and not by the crates.
 
     cases.py store DIR             DIR/stdin and DIR/stdout: the vectors of tests/vectors, then the
                                    cases of tests/inputs
@@ -11,6 +11,8 @@ docs/RECORDINGS.md and not by the crates.
                                    the states where its sentence about runs does
     cases.py lines COUNT           so many random lines: the last entry of the body that each
                                    becomes is met by the actions that the line says
+    cases.py tables COUNT          so many random tables: where the audit says yes, each filled cell
+                                   has its solution; and it says yes of what lists leave
 
 A last word NUMBERS, as 1,2,10, to `store` and `large` keeps these requests alone.
 """
@@ -18,14 +20,17 @@ import random
 import sys
 from pathlib import Path
 
-from inputs.chance import random_line, random_sentence
-from inputs.parts import T, plan, rule
+from inputs.audit_parts import cells_left
+from inputs.chance import (
+    random_change, random_filling, random_line, random_sentence, random_sheet, random_states)
+from inputs.parts import T, counted, plan, rule
 from inputs.pattern_parts import body_of, with_rule
 from inputs.streams import CUT, ENDING, large, stored
+from oracle.audits import audit, filled_cells
 from oracle.line_actions import actions_said, refusal_of
 from oracle.lines import line_body
 from oracle.protocol import answered, answers
-from oracle.rows import Sheet
+from oracle.rows import Sheet, solve
 from oracle.runs import sentence
 from oracle.sheet import Refused, sheet_of
 from oracle.table1 import meaning
@@ -104,6 +109,37 @@ def lines(count):
     return 0
 
 
+def tables(count):
+    rng, found, cells, lists = random.Random(9), {True: 0, False: 0}, 0, 0
+    for i in range(count):
+        s = random_sheet(rng, (3, 8, 16, 40))
+        try:
+            sheet, filling = Sheet(s), random_filling(rng, s)
+            for _ in range(rng.choice((0, 1, 1, 2))):
+                filling = random_change(rng, filling)
+            right = audit(s, counted(filling))
+        except Refused:
+            continue
+        found[right] += 1
+        if right:
+            filled = filled_cells(sheet, filling)
+            cells += len(filled)
+            empty = bytes(sheet.cells())
+            wrong = [cell for cell in filled if solve(sheet, empty, cell)[0][cell]
+                     != (filling[sheet.place(cell)] == 2)]
+            if wrong:
+                print('table', i, 'sheet', [*s], 'cells', [*filling], 'says yes, but', wrong)
+                return 1
+        states = random_states(rng, sheet)
+        lists += 1
+        if not audit(s, counted(cells_left(s, states))):
+            print('table', i, 'sheet', [*s], 'says no of what the list', states, 'leaves')
+            return 1
+    print('%d tables with a yes: their %d filled cells have their solutions; %d with a no; the '
+          'tables that %d lists leave get a yes' % (found[True], cells, found[False], lists))
+    return 0
+
+
 def main(args):
     if args[:1] == ['check'] and len(args) == 3:
         return check(*args[1:])
@@ -111,6 +147,8 @@ def main(args):
         return runs(int(args[1]))
     if args[:1] == ['lines'] and len(args) == 2:
         return lines(int(args[1]))
+    if args[:1] == ['tables'] and len(args) == 2:
+        return tables(int(args[1]))
     numbers = b''
     if len(args) > 2 and args[-1].replace(',', '').isdigit():
         numbers = bytes(map(int, args.pop().split(',')))

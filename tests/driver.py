@@ -9,6 +9,20 @@ from oracle.sheet import Refused
 DRIVER = str(HERE / 'target/bin/trials')
 ROOM = 6455                             # bytes that are enough for every sheet
 
+# what the refusals of a sheet mean; docs/REFUSALS.md says more of each
+MEANINGS = {
+    1: 'the sheet has fewer than 17 bytes',
+    2: 'the sheet is not of edition 1 with three bodies',
+    3: 'the table of contents of the sheet is wrong, or its length is another',
+    4: 'the length of the plan, its number of states or that of its transitions is wrong',
+    5: 'transition {} of the plan is wrong',
+    6: 'the number of action formulas or their length is wrong',
+    7: 'action formula {} is wrong',
+    8: 'the number of nodes of the rule or its length is wrong',
+    9: 'node {} of the rule is wrong',
+    10: 'node {} of the rule is a binder or a variable that may not stand there',
+}
+
 
 def chosen(args):
     """the driver, another one where `--driver PROGRAM` stands first, and the other words"""
@@ -42,6 +56,12 @@ def answered(driver, request, form):
     if int(number):
         raise Refused(int(number), int(place))
     return [value.decode() for value in values]
+
+
+def in_words(further, number, place):
+    """a refusal with what it means, further ones than a sheet's by their numbers"""
+    meaning = {**MEANINGS, **further}[number].format(place)
+    return 'refused %d %d: %s' % (number, place, meaning)
 
 
 def called(driver, request):

@@ -1,10 +1,10 @@
 #!/usr/bin/env python3
-"""The example sheets, the text of one's plan, the recordings for another and the example report,
-with pages that explain them.
+"""The example sheets, the text of one's plan, the recordings for another, the example report and
+the example tables, with pages that explain them.
 
-    sheets.py write DIR              writes DIR/NAME.sheet, or DIR/NAME.report, and DIR/NAME.txt for
-                                     each, DIR/NAME.aut for a plan that has a text, and
-                                     DIR/NAME-WHICH.run for each recording
+    sheets.py write DIR              writes DIR/NAME.sheet, DIR/NAME.report or DIR/NAME-WHICH.table,
+                                     and DIR/NAME.txt for each, DIR/NAME.aut for a plan that has a
+                                     text, and DIR/NAME-WHICH.run for each recording
     sheets.py check DIR PROGRAM      runs PROGRAM on each sheet of DIR and compares with the last
                                      line of its page; then on sheets at the limits and on refused
                                      ones, and compares with what docs/FORMAT.md says
@@ -17,6 +17,9 @@ with pages that explain them.
     sheets.py recordings DIR DRIVER  searches the recordings of DIR, by tests/shortest_run.py and
                                      the trial driver DRIVER, and compares with the page; then
                                      others, and refused ones
+    sheets.py tables DIR DRIVER      audits the tables of DIR, by tests/audit_table.py and the trial
+                                     driver DRIVER, and compares with the page; then others, and
+                                     refused ones
     sheets.py deepest FILE           the sheet on which a query nests deepest
 """
 import re
@@ -26,18 +29,23 @@ import tempfile
 import textwrap
 from pathlib import Path
 
+import audit_table
+import shortest_run
+from inputs.audit_parts import cells_left, solved_cells, turned
 from inputs.aut_parts import text
-from inputs.examples import COUNTER, CUT, KEY, KEY_BRANCH, LOOP_AHEAD, SERVICE, SPARE, WORN_KEPT
+from inputs.counts import AT_0_AND_2
+from inputs.examples import (
+    COUNTER, CUT, KEY, KEY_BRANCH, LOOP_AHEAD, SERVICE, SPARE, SUPPLIER, WORN_KEPT)
 from inputs.parts import (
-    GREATEST_X, K, K8, K_ACTIONS, K_PLAN, K_RULE, LEAST, LEAST_LOOP, LEAST_X, LONG, deepest, faults,
-    plan, refusals, rule, table)
+    GREATEST_X, K, K8, K_ACTIONS, K_PLAN, K_RULE, LEAST, LEAST_LOOP, LEAST_X, LONG, counted,
+    deepest, faults, plan, refusals, rule, set_at, table)
 from native import HERE
 from oracle.aut import read_text
 from oracle.branches import branched, propose
 from oracle.program import line_of, lines_of
 from oracle.recordings import shortest
+from oracle.rows import Sheet
 from oracle.sheet import bodies_at, read_sheet, sheet_of, triples, word
-from shortest_run import answer_line, refusal_line
 
 KINDS = ('F', 'T', 'or', 'and', 'some', 'every', 'variable', 'least', 'greatest')
 
@@ -101,7 +109,7 @@ def run_name(example, which):
 def shortest_line(s, first, second):
     """what tests/shortest_run.py says of recordings that are not refused"""
     which, part = shortest(s, first, second)
-    return answer_line(which, bytes.fromhex(part))
+    return shortest_run.answer_line(which, bytes.fromhex(part))
 
 
 def run_rows(example):
@@ -144,6 +152,37 @@ def report_page(example):
     return '\n'.join([*filled(example['title']), '', 'The %d bytes' % len(given), *shown(rows), '',
                       *filled(example['also']), '', 'The program counter_report prints',
                       lines_of(given), ''])
+
+
+def table_name(example, which):
+    return '%s-%s.table' % (example['name'], which)
+
+
+def table_rows(example, tab):
+    """of each state the nodes that have a filled cell, with the bytes of their marks; the count"""
+    sheet = Sheet(example['sheet'])
+    marks, nodes = len(sheet.binders) + 1, len(sheet.nodes)
+    for at in range(0, sheet.cells(), marks):
+        if any(tab[at:at + marks]):
+            state, node = divmod(at // marks, nodes)
+            yield tab[at:at + marks], 'byte %d: state %d, node %d: %s' % (
+                at, state, node, node_text(sheet.nodes[node]))
+    yield tab[sheet.cells():], 'byte %d: the stored count' % sheet.cells()
+
+
+def tables_page(example):
+    out = [*filled(example['title']), '', *filled(
+        'A byte of a cell is 0 where it is empty, 1 where it is false, 2 where it is true. The '
+        'three of a node stand for marks 0, 1 and 2. Nodes of which no cell is filled are left '
+        'out. The command names a cell by its mark, its node and its state.')]
+    for which, tab in example['tables'].items():
+        out += ['', 'The %s table, %s, %d bytes' % (which, table_name(example, which), len(tab)),
+                *shown(table_rows(example, tab)), '', *filled(example['of ' + which]), '',
+                'The command',
+                '  python3 tests/audit_table.py examples/%s examples/%s' % (
+                    example['sheet name'], table_name(example, which)),
+                'prints', '  ' + audit_table.answer_line(example['sheet'], tab)]
+    return '\n'.join([*out, ''])
 
 
 def further():
@@ -325,12 +364,12 @@ def to_search(folder):
         yield sheet, one, other, shortest_line(sheet, one, other)
     for s in (K, K8, sheet_of(*CUT['bodies']), sheet_of(*LONG)):
         yield s, b'\1\2', b'\2', shortest_line(s, b'\1\2', b'\2')
-    yield sheet, b'\0' * 128, second, refusal_line(42, 0)
-    yield sheet, first, b'\6', refusal_line(43, 0)
-    yield sheet_of(*LEAST), b'', b'\0', refusal_line(43, 0)
-    yield sheet[:-1], first, second, refusal_line(3, 0)
+    yield sheet, b'\0' * 128, second, shortest_run.refusal_line(42, 0)
+    yield sheet, first, b'\6', shortest_run.refusal_line(43, 0)
+    yield sheet_of(*LEAST), b'', b'\0', shortest_run.refusal_line(43, 0)
+    yield sheet[:-1], first, second, shortest_run.refusal_line(3, 0)
     for number, place, s in faults():
-        yield s, first, b'\0' * 128, refusal_line(number, place)
+        yield s, first, b'\0' * 128, shortest_run.refusal_line(number, place)
     yield b'(' * 65536, first, second, TOO_LONG
     yield sheet, b'\1' * 65536, second, TOO_LONG
 
@@ -355,6 +394,69 @@ def recordings(folder, driver):
     return min(wrong, 1)
 
 
+def to_audit(folder):
+    """sheets and tables; what is said of them"""
+    # the commands of the pages, and what they print
+    page = (HERE / 'docs/AUDIT.md').read_text()
+    key = re.search(r'make audit SHEET=(\S+)', page)[1]
+    found = re.findall(r'TABLE=([\w/.-]+)`?(?:\n\n.* | it )prints\n\n *(.*)\n', page)
+    assert len(found) == len(SUPPLIER['tables'])
+    for tab, line in found:
+        yield (HERE / key).read_bytes(), (HERE / tab).read_bytes(), line
+    words = Path(folder, SUPPLIER['name'] + '.txt').read_text()
+    found = re.findall(r'table.py (\S+) (\S+)\nprints\n *(.*)\n', words)
+    assert len(found) == len(SUPPLIER['tables'])
+    for sheet, tab, line in found:
+        yield (HERE / sheet).read_bytes(), (HERE / tab).read_bytes(), line
+    for cells, off, line in (
+            (bytes(108), 0, 'yes: the count, 0, is right, and each filled cell follows'),
+            (AT_0_AND_2, -26, 'no: the stored count is 0, and the number of filled cells is 26'),
+            (set_at(bytes(108), 2, 2), 0,
+             'no: the cell (2, 0, 0) is filled, but node 0 does not stand below binder 1'),
+            (set_at(bytes(108), 81, 1), 0,
+             'no: the cell (0, 3, 2) is false, but its row is empty, which makes it true'),
+            (set_at(AT_0_AND_2, 4, 0), 0, 'no: the cell (0, 0, 0) is true, but (1, 1, 0) in its '
+             'row is empty, and none decides it'),
+            (turned(AT_0_AND_2, 40), 0, 'no: the cell (0, 0, 1) is true, but (1, 1, 1) in its row '
+             'is false, which makes it false'),
+            (turned(AT_0_AND_2, 85), 0, 'no: the cell (1, 1, 2) is false, but (1, 4, 2) in its row '
+             'is true, which makes it true'),
+            (set_at(turned(AT_0_AND_2, 76), 72, 0), 0, 'no: the cell (1, 1, 2) is true, but all 2 '
+             'in its row are false, which makes it false')):
+        yield K, counted(cells, off), line
+    for s in (K8, LEAST_X, GREATEST_X, sheet_of(*CUT['bodies']), sheet_of(*SPARE['bodies'])):
+        for cells in (cells_left(s, [0]), cells_left(s, range(9)), solved_cells(s)):
+            yield s, counted(cells) + b'\3', audit_table.answer_line(s, counted(cells))
+    yield K, bytes(111), audit_table.refusal_line(20, 0)
+    yield K, b'\3' + bytes(111), audit_table.refusal_line(21, 0)
+    yield LEAST_LOOP, counted(b'\0\0\0\0\0\1'), audit_table.refusal_line(12, 0)
+    for number, place, s in faults():
+        yield s, bytes(112), audit_table.refusal_line(number, place)
+    yield b'(' * 65536, bytes(112), TOO_LONG
+    yield K, bytes(65536), TOO_LONG
+
+
+def tables(folder, driver):
+    wrong = 0
+    command = [sys.executable, str(HERE / 'tests/audit_table.py'), '--driver', driver]
+    with tempfile.TemporaryDirectory() as made:
+        for i, (*given, wanted) in enumerate(to_audit(folder)):
+            files = [Path(made, '%d.%s' % (i, which)) for which in ('sheet', 'table')]
+            for file, content in zip(files, given):
+                file.write_bytes(content)
+            done = subprocess.run([*command, *map(str, files)], capture_output=True)
+            line = wanted.encode() + b'\n'
+            answers = wanted.startswith(('yes', 'no'))
+            right = (line, b'', 0) if answers else (b'', line, 1)
+            found = done.stdout, done.stderr, done.returncode
+            good = found == right and all(file.read_bytes() == content
+                                          for file, content in zip(files, given))
+            wrong += not good
+            print('table %d:' % i, wanted if good else '%s and not %s' % (found, right))
+    print('all as expected' if wrong == 0 else '%d wrong' % wrong)
+    return min(wrong, 1)
+
+
 def main(args):
     if args[:1] == ['write'] and len(args) == 2:
         for example in (KEY, KEY_BRANCH, CUT, SPARE, SERVICE):
@@ -367,6 +469,9 @@ def main(args):
                 Path(args[1], run_name(example, which)).write_bytes(run)
         Path(args[1], COUNTER['name'] + '.report').write_bytes(report_input(COUNTER))
         Path(args[1], COUNTER['name'] + '.txt').write_text(report_page(COUNTER))
+        for which, tab in SUPPLIER['tables'].items():
+            Path(args[1], table_name(SUPPLIER, which)).write_bytes(tab)
+        Path(args[1], SUPPLIER['name'] + '.txt').write_text(tables_page(SUPPLIER))
         return 0
     if args[:1] == ['check'] and len(args) == 3:
         return check(*args[1:])
@@ -376,6 +481,8 @@ def main(args):
         return branches(*args[1:])
     if args[:1] == ['recordings'] and len(args) == 3:
         return recordings(*args[1:])
+    if args[:1] == ['tables'] and len(args) == 3:
+        return tables(*args[1:])
     if args[:1] == ['deepest'] and len(args) == 2:
         Path(args[1]).write_bytes(deepest())
         return 0

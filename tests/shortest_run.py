@@ -18,22 +18,11 @@ a file or the driver can't be used; with 2 where it isn't called with three file
 import sys
 from pathlib import Path
 
-from driver import answered, fitting, run
+from driver import answered, fitting, in_words, run
 from oracle.protocol import shortest_request
 from oracle.sheet import Refused
 
-# docs/REFUSALS.md says more of each
-MEANINGS = {
-    1: 'the sheet has fewer than 17 bytes',
-    2: 'the sheet is not of edition 1 with three bodies',
-    3: 'the table of contents of the sheet is wrong, or its length is another',
-    4: 'the length of the plan, its number of states or that of its transitions is wrong',
-    5: 'transition {} of the plan is wrong',
-    6: 'the number of action formulas or their length is wrong',
-    7: 'action formula {} is wrong',
-    8: 'the number of nodes of the rule or its length is wrong',
-    9: 'node {} of the rule is wrong',
-    10: 'node {} of the rule is a binder or a variable that may not stand there',
+FURTHER = {
     42: 'a recording has more than 127 actions',
     43: 'a recording has an action that is not below the number of actions of the sheet',
 }
@@ -50,7 +39,7 @@ def answer_line(which, part):
 
 
 def refusal_line(number, place):
-    return 'refused %d %d: %s' % (number, place, MEANINGS[number].format(place))
+    return in_words(FURTHER, number, place)
 
 
 def searched(driver, args):

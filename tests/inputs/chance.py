@@ -1,13 +1,14 @@
 """Bodies, sheets and requests made at random."""
+from inputs.audit_parts import cells_left, closed, solved_cells
 from inputs.parts import counted, plan, rule, table
 from oracle.aut import aut_body
 from oracle.branches import propose
 from oracle.lines import line_body
 from oracle.patterns import translate
 from oracle.protocol import (
-    aut_request, commit_request, guard_request, line_request, list_request, pattern_request,
-    propose_request, query_request, read_request, reference_request, report_request,
-    shortest_request, write_request)
+    audit_request, aut_request, commit_request, guard_request, line_request, list_request,
+    pattern_request, propose_request, query_request, read_request, reference_request,
+    report_request, shortest_request, write_request)
 from oracle.recordings import shortest
 from oracle.reports import ROOM
 from oracle.rows import Sheet
@@ -382,3 +383,48 @@ def random_recordings(rng, nodes=(3, 8, 16), most=(0, 1, 2, 3, 4, 6, 9)):
     if rng.random() < 0.06:
         s = damaged(rng, s)
     yield shortest_request(s, spoilt(rng, first), spoilt(rng, second))
+
+
+def random_filling(rng, s):
+    """the cells of an accepted sheet: as a list leaves them, all of them filled that may be, then
+    with some taken out and all that do not follow any more, or with wrong marks too; or any"""
+    shape = rng.choice(('left', 'left', 'left', 'full', 'closed', 'closed', 'closed', 'marks',
+                        'any'))
+    if shape == 'left':
+        return cells_left(s, random_states(rng, Sheet(s)))
+    if shape == 'any':
+        often = rng.choice((0.5, 0.9, 0.98))
+        return bytes(0 if rng.random() < often else rng.randrange(3)
+                     for _ in range(Sheet(s).cells()))
+    cells = solved_cells(s, shape == 'marks')
+    if shape == 'closed':
+        often = rng.choice((0.05, 0.2, 0.5))
+        cells = closed(s, bytes(b if rng.random() > often else 0 for b in cells))
+    return cells
+
+
+def random_change(rng, cells):
+    """a cell emptied or turned round, most often, or any byte"""
+    cells = bytearray(cells)
+    filled = [place for place, b in enumerate(cells) if b]
+    place = rng.choice(filled) if filled and rng.random() < 0.7 else rng.randrange(len(cells))
+    cells[place] = rng.choice((0, 0, 3 - cells[place] if cells[place] in (1, 2) else 1,
+                               rng.randrange(3), rng.randrange(3), rng.choice((0, 1, 2, 3, 255))))
+    return bytes(cells)
+
+
+def random_audit(rng, most=(3, 8, 16)):
+    """a table that is audited: as it is, or with a change or two; the count is wrong now and then,
+    and seldom the length or the sheet"""
+    s = random_sheet(rng, most)
+    try:
+        cells = random_filling(rng, s)
+    except Refused:
+        cells = bytes(9)
+    for _ in range(rng.choice((0, 0, 1, 1, 2))):
+        cells = random_change(rng, cells)
+    off = rng.choice((1, -1, 256, 1 << 24)) if rng.random() < 0.1 else 0
+    tab = counted(cells, off) + rng.randbytes(rng.choice((0, 0, 0, 1, 5)))
+    if rng.random() < 0.05:
+        tab = tab[:rng.randrange(len(tab))]
+    yield audit_request(damaged(rng, s) if rng.random() < 0.04 else s, tab)

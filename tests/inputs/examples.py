@@ -1,7 +1,7 @@
-"""The example sheets, the example text of a plan, the example recordings and the example report,
-with the words that their pages say of them."""
+"""The example sheets, the example text of a plan, the example recordings, the example report and
+the example tables, with the words that their pages say of them."""
 from inputs.aut_parts import text
-from inputs.parts import F, K, K_ACTIONS, K_PLAN, K_RULE, T, plan, rule, table
+from inputs.parts import F, K, K_ACTIONS, K_PLAN, K_RULE, T, counted, plan, rule, table
 from oracle.branches import tag_of
 from oracle.program import line_of
 from oracle.sheet import sheet_of
@@ -144,4 +144,30 @@ COUNTER = {
     'also': 'K\'s rule holds at states 0 and 1 and does not hold at state 2; there is no state 3. '
             'The query of state 0 decides 17 cells of the table. All that state 1 needs is among '
             'them, so its query decides none. That of state 2 decides 9 more: 26 in all.',
+}
+
+# K's cells, by their bytes: as the queries of states 0, 1 and 2 leave them, and as they would be
+# left by a program for which a variable is its constant wherever a mark is open
+FIRST_CELLS = {0: 2, 4: 2, 7: 1, 13: 2, 16: 1, 22: 2, 25: 2, 28: 1, 31: 2, 36: 2, 40: 2, 43: 2,
+               57: 2, 62: 2, 65: 2, 69: 2, 72: 1, 76: 1, 79: 1, 81: 2, 85: 1, 88: 1, 94: 1, 97: 1,
+               100: 1, 103: 1}
+SECOND_CELLS = {0: 1, 4: 1, 7: 1, 13: 1, 16: 1, 22: 1, 25: 1, 28: 1, 31: 1, 36: 2, 40: 2, 43: 2,
+                57: 1, 62: 1, 65: 1, 68: 1, 69: 1, 72: 1, 76: 1, 79: 1, 81: 2, 85: 1, 88: 1, 94: 1,
+                97: 1, 100: 1, 103: 1}
+
+SUPPLIER = {
+    'name': 'supplier',
+    'title': 'Two tables for K, the sheet of key.txt, as the programs of two suppliers filled '
+             'them.',
+    'sheet': K,
+    'sheet name': 'key.sheet',
+    'tables': {which: counted([cells.get(i, 0) for i in range(108)])
+               for which, cells in (('first', FIRST_CELLS), ('second', SECOND_CELLS))},
+    'of first': 'It is the table that the queries of states 0, 1 and 2 leave. Each filled cell '
+                'follows, and so each has its solution: by the root\'s cells, those of node 0 '
+                'under mark 0, the rule holds at states 0 and 1 and not at state 2.',
+    'of second': 'By it the rule does not hold at state 0. The program that filled it takes a '
+                 'variable for its constant wherever a mark is open. Under mark 2 binder 1 is open '
+                 'and binder 0 is not, so the row of node 9, variable 0, is the cell of binder 0, '
+                 'which is true at state 1. All other cells follow, from this one or from others.',
 }

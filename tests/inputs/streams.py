@@ -2,6 +2,8 @@
 import random
 from itertools import product
 
+from inputs.audit_limits import longest_audits
+from inputs.audits import audits, audits_to_try
 from inputs.aut_limits import longest_texts
 from inputs.aut_page import auts_to_try
 from inputs.aut_parts import text
@@ -11,7 +13,7 @@ from inputs.branch_limits import longest_branches
 from inputs.branch_parts import likely, small
 from inputs.branches import branches, branches_to_try
 from inputs.chance import (
-    random_branch, random_conversion, random_judging, random_list, random_reading,
+    random_audit, random_branch, random_conversion, random_judging, random_list, random_reading,
     random_recordings, random_report, random_translation, random_typing)
 from inputs.counts import counts_to_try
 from inputs.judging import judgings
@@ -32,7 +34,7 @@ from inputs.rules import children_to_try
 from inputs.to_try import to_try
 from oracle.branches import tag_of
 from oracle.protocol import (
-    answers, aut_request, commit_request, guard_request, line_request, list_request,
+    answers, audit_request, aut_request, commit_request, guard_request, line_request, list_request,
     pattern_request, propose_request, query_request, read_request, reference_request,
     report_request, shortest_request, write_request)
 from oracle.reports import ROOM
@@ -62,6 +64,8 @@ def stored():
     yield from branches()
     yield from expected(*recordings_to_try(), *judged_runs())
     yield from recordings()
+    yield from expected(*audits_to_try())
+    yield from audits()
 
 
 # an unknown request ends the run: what follows it gives nothing
@@ -159,3 +163,13 @@ def large():
         yield from expected(*(by_pattern(s, pattern, *pair) for pair in product(runs, repeat=2)))
     for _ in range(4000):
         yield from random_recordings(rng, (3, 8, 16, 40, 64), (0, 1, 2, 3, 5, 9, 30))
+    yield audit_request(full, full)
+    yield audit_request(K, full)
+    yield from expected(*longest_audits())
+    # each table of a sheet of two states with one node and of one state with two and a binder
+    for s in (sheet_of(plan(2, 1, [(0, 0, 1)]), TRUE, rule((4, 0, 1), T)),
+              *(sheet_of(plan(1, 1, []), TRUE, rule((kind, 0, 1), (6, 0, 0))) for kind in (7, 8))):
+        for cells in product(range(3), repeat=4):
+            yield audit_request(s, counted(cells))
+    for _ in range(4000):
+        yield from random_audit(rng, (3, 8, 16, 40, 64))

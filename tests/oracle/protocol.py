@@ -1,4 +1,5 @@
 """The trial driver's protocol (docs/TRIALS.md): requests as bytes, and the lines they give."""
+from oracle.audits import audit
 from oracle.aut import aut_body
 from oracle.branches import commit, propose
 from oracle.lines import line_body
@@ -71,6 +72,10 @@ def commit_request(s, branch, proposal, size, fill):
 
 def shortest_request(s, first, second):
     return b'\x0e' + blob_of(s) + blob_of(first) + blob_of(second)
+
+
+def audit_request(s, tab):
+    return b'\x0f' + blob_of(s) + blob_of(tab)
 
 
 def yes(b):
@@ -218,10 +223,15 @@ def answer_shortest(stream):
     return reported('shortest', lambda: shortest(sheet, first, second), 'none', '')
 
 
+def answer_audit(stream):
+    sheet, tab = stream.blob(), stream.blob()
+    return reported('audit', lambda: [yes(audit(sheet, tab))], 'false')
+
+
 ANSWERS = {1: answer_read, 2: answer_guard, 3: answer_reference, 4: answer_list, 5: answer_query,
            6: answer_write, 7: answer_pattern, 8: answer_children, 9: answer_line,
            10: answer_report, 11: answer_aut, 12: answer_propose, 13: answer_commit,
-           14: answer_shortest}
+           14: answer_shortest, 15: answer_audit}
 
 
 def answered(given):

@@ -5,4 +5,6 @@ pub mod Colouring
 pub mod Partway
 pub mod SearchSteps
 pub mod ScanSteps
+pub mod SweepSteps
 pub mod SearchRight
+pub mod SearchAll

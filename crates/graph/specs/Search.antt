@@ -1,8 +1,8 @@
--- The search of what can be reached from a state, as a function of a plan's bytes, an index and the state, whether the plan is well formed
--- or not. It goes depth first, looks for a loop, and stores on the way where the transitions of each state that it comes to begin and end,
--- and a 1 for each of their actions. What it leaves for a well-formed plan is said in Explored.antt.
+-- The search of what can be reached from a state, or from several, as a function of a plan's bytes, an index and the states, whether the
+-- plan is well formed or not. It goes depth first, looks for a loop, and stores on the way where the transitions of each state that it
+-- comes to begin and end, and a 1 for each of their actions. What it leaves for a well-formed plan is said in Explored.antt.
 use Prim.Native.Nat.{ℕ, zero, suc, _+_, _-_, _/_}
-use mathlib.Core.Bool.{Bool, true, false}
+use mathlib.Core.Bool.{Bool, true, false, _||_}
 use mathlib.Core.List.{List}
 use lib.ListN.{length, getD, set, replicate}
 use lib.Dec.{eqb, ltb}
@@ -88,3 +88,22 @@ colourCount = 256
 -- the search from a state: no state is seen yet, and the search can go no deeper than there are states
 unfoldable pub explored : List ℕ → List ℕ → ℕ → Outcome
 explored p index s = visit p (colourCount + 1) s index (replicate colourCount 0)
+
+-- ---- the search from several states
+
+-- "1 to 128 states": how many states a plan can have
+abbrev pub mostStates : ℕ
+mostStates = 128
+
+-- of the n states from s on, in order: a search from each that starts names (its entry there is not 0) and that is not done already, the
+-- colours handed on, up to the first that finds a loop
+unfoldable pub sweep : List ℕ → List ℕ → ℕ → ℕ → List ℕ → List ℕ → Outcome
+sweep p starts zero s index colours = outcome true index colours
+sweep p starts (suc n) s index colours =
+    pick (eqb (getD starts s 0) 0 || ltb 1 (getD colours s 0))
+    (sweep p starts n (s + 1) index colours)
+    (goOn (λ x c. sweep p starts n (s + 1) x c) (visit p (colourCount + 1) s index colours))
+
+-- the search from all states that starts names: no state is seen yet
+unfoldable pub exploredAll : List ℕ → List ℕ → List ℕ → Outcome
+exploredAll p index starts = sweep p starts mostStates 0 index (replicate colourCount 0)

@@ -1,8 +1,11 @@
-// The search of what can be reached from a state: depth first, with a colour for each state. It looks for a loop, and stores where the
-// transitions of each state that it comes to begin and end, and which actions they have. It is the search of specs/Search.antt, of any bytes.
+// The search of what can be reached from a state, or from several: depth first, with a colour for each state. It looks for a loop, and stores
+// where the transitions of each state that it comes to begin and end, and which actions they have. It is the search of specs/Search.antt, of
+// any bytes.
 use crate::ACTIONS_AT;
 use crate::FIRSTS_AT;
 use crate::Index;
+use crate::MOST_STATES;
+use crate::Starts;
 use sheet::Action;
 use sheet::State;
 use sheet::plan::transition_count;
@@ -13,7 +16,7 @@ ghost use lib.ListN.{length, getD, set};
 ghost use lib.Dec.{eqb, ltb};
 ghost use Rattle.sheet.specs.Plan.{origin, label, target};
 ghost use Rattle.graph.specs.Index.{indexSize};
-ghost use Rattle.graph.specs.Search.{firstByHalving, foundNone, indexLeft, explored};
+ghost use Rattle.graph.specs.Search.{firstByHalving, foundNone, indexLeft, explored, exploredAll};
 ghost use Rattle.graph.specs.internal.Searching.{TransitionsCounted, Visiting, Visited};
 
 // A colour for each number that a byte can give a state. A state is not seen (0), open or done.
@@ -159,4 +162,30 @@ pub fn explore(plan: &[u8], index: &mut Index, state: State) -> bool
     let count = count_held(plan);
     let mut colours = [0u8; COLOURS];
     visit(plan, count, index, &mut colours, state)
+}
+
+// Whether the searches from some states, one after the other with one colouring, found no loop. Of a well-formed plan: whether none can be
+// reached from any of them; where none can, the index then says of each state that can be reached what explore leaves of it.
+pub fn explore_all(plan: &[u8], index: &mut Index, starts: &Starts) -> bool
+    ensures { λ r. ⌜ r ≡ foundNone (exploredAll (now (plan .entry)) (now (index .entry)) (now (starts .entry))) ⌝ }
+    ensures { λ _. ⌜ now (index .exit) ≡ indexLeft (exploredAll (now (plan .entry)) (now (index .entry)) (now (starts .entry))) ⌝ }
+{
+    let count = count_held(plan);
+    let mut colours = [0u8; COLOURS];
+    let mut s: usize = 0;
+    while s < MOST_STATES {
+        if starts[s] == 0 {
+            s += 1;
+            continue;
+        }
+        if is_done(&colours, State(s as u8)) {
+            s += 1;
+            continue;
+        }
+        if !visit(plan, count, index, &mut colours, State(s as u8)) {
+            return false;
+        }
+        s += 1;
+    }
+    true
 }

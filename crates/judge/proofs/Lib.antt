@@ -6,6 +6,8 @@ pub mod truth
 pub mod exchange
 -- clearing and lists of queries
 pub mod lists
+-- the audit of a filled table
+pub mod audit
 -- the statements of specs/
 pub mod statements
 -- what the code of each function shows

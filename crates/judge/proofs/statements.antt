@@ -6,4 +6,5 @@ pub mod CallNumbers
 pub mod TwelveExactly
 pub mod Demand3
 pub mod RunningCalls
+pub mod AuditCorrect
 pub mod SheetsToTry

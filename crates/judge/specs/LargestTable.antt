@@ -4,11 +4,8 @@ use mathlib.Core.Path.{_≡_}
 use mathlib.Core.List.{List}
 use Rattle.sheet.specs.Reading.{sheetCheck}
 use Rattle.sheet.specs.declared.Check.the-variants.{Passed}
+use Rattle.graph.specs.Search.{mostStates}
 use Rattle.judge.specs.Cells.{cellBytes, tableBytesFor, tableBytes}
-
--- "1 to 128 states"
-abbrev pub mostStates : ℕ
-mostStates = 128
 
 -- "Count N (1 byte, 1 to 64)"
 abbrev pub mostNodes : ℕ

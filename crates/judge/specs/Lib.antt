@@ -13,6 +13,9 @@ pub mod CallNumbers
 -- "Lists of queries"
 pub mod Lists
 pub mod Demand3
+-- document 02 (k)
+pub mod Auditing
+pub mod AuditCorrect
 -- "Sheets to try"
 pub mod SheetsToTry
 -- what private functions ask and promise; nobody has to believe it

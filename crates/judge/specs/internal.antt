@@ -4,3 +4,4 @@ pub mod Packed
 pub mod Scanning
 pub mod Deciding
 pub mod Judging
+pub mod Auditing

@@ -1,4 +1,4 @@
-// The index prepared for a query, and what the evaluator reads through it. Its layout: the first places here, the others in the crate graph.
+// The index prepared for a query or an audit, and what they read through it. Its layout: the first places here, the others in the crate graph.
 use crate::widen::wide;
 use crate::widen::wide_u32;
 use graph::ACTIONS_AT;
@@ -19,7 +19,8 @@ ghost use Rattle.sheet.specs.Bytes.{byte};
 ghost use Rattle.graph.specs.Index.{indexSize, firstsAt, actionsAt};
 ghost use Rattle.judge.specs.internal.Index.{bindersAt, BinderAt, NodeAt, TransitionAt};
 
-// Where the rule lies in the sheet, how many nodes and how many marks it has, and from BINDERS_AT on the binders' nodes.
+// Where the rule lies in the sheet, how many nodes and how many marks it has, from BINDERS_AT on the binders' nodes, and for an audit from ENDS_AT on
+// where their subtrees end.
 pub(crate) const RULE_AT: usize = 0;
 
 pub(crate) const NODES_AT: usize = 1;
@@ -27,6 +28,8 @@ pub(crate) const NODES_AT: usize = 1;
 pub(crate) const MARKS_AT: usize = 2;
 
 pub(crate) const BINDERS_AT: usize = 3;
+
+pub(crate) const ENDS_AT: usize = 9;
 
 pub(crate) fn number(index: &Index, i: usize) -> usize
     requires { ⌜ i < indexSize ⌝ }

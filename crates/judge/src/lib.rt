@@ -1,5 +1,7 @@
-// The judge: rows of cells, clearing and query; the count that a table carries.
+// The judge: rows of cells, clearing and query; the count that a table carries; the audit of a filled table.
+pub mod auditing;
 pub mod clearing;
+mod consistency;
 pub mod counting;
 mod deciding;
 mod index;
@@ -11,17 +13,17 @@ mod scanning;
 pub mod table;
 mod widen;
 
+use graph::MOST_STATES;
 use sheet::Refusal;
 ghost use mathlib.Core.Path.{_≡_};
 ghost use Rattle.judge.specs.Querying.{reportedQuery};
 ghost use Rattle.judge.specs.Counting.{reportedCount};
+ghost use Rattle.judge.specs.Auditing.{reportedAudit};
 
 // How many bytes of a table hold its count, after the cells.
 pub(crate) const COUNT_BYTES: usize = 4;
 
-// The limits of a sheet, and the table of one that reaches them: the cells and the count.
-const MOST_STATES: usize = 128;
-
+// The limits of a sheet beside that of states, which is the graph's, and the table of one that reaches them all: the cells and the count.
 const MOST_NODES: usize = 64;
 
 const MOST_BINDERS: usize = 6;
@@ -127,6 +129,44 @@ impl Counted {
         match self {
             Counted::Stored(n) => n,
             Counted::Refused(_) => 0,
+        }
+    }
+}
+
+// What the audit of a filled table answers: yes or no.
+pub enum Audited {
+    Answered(bool),
+    Refused(Refusal),
+}
+
+impl Audited {
+    // Its number: 0 or that of the refusal.
+    pub fn number(self) -> u8
+        ensures { λ r. ⌜ r ≡ reportedAudit self .number ⌝ }
+    {
+        match self {
+            Audited::Answered(_) => 0,
+            Audited::Refused(x) => x.number(),
+        }
+    }
+
+    // The place of the refusal, or 0.
+    pub fn place(self) -> u16
+        ensures { λ r. ⌜ r ≡ reportedAudit self .place ⌝ }
+    {
+        let Audited::Refused(x) = self else {
+            return 0;
+        };
+        x.place()
+    }
+
+    // Yes or no; no on a refusal.
+    pub fn answer(self) -> bool
+        ensures { λ r. ⌜ r ≡ reportedAudit self .answer ⌝ }
+    {
+        match self {
+            Audited::Answered(b) => b,
+            Audited::Refused(_) => false,
         }
     }
 }

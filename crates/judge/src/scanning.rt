@@ -3,11 +3,13 @@
 use crate::Block;
 use crate::Scanned;
 use crate::widen::wide;
+use graph::Starts;
 use std::num::wrapping_add_u8;
 ghost use mathlib.Core.Path.{_≡_};
 ghost use Prim.Native.Nat.{_+_, _<_, _≤_, _/_};
 ghost use lib.ListN.{length};
 ghost use Rattle.judge.specs.internal.Scanning.{scanOf, BlockScanned};
+ghost use Rattle.judge.specs.internal.Auditing.{StatesScanned, ScannedRequires};
 
 // As many as a byte can count, in whole steps of 32.
 const BLOCK: usize = 224;
@@ -54,4 +56,34 @@ pub(crate) fn scan(bytes: &[u8]) -> Scanned
         return Scanned::ByteOver;
     }
     Scanned::Filled(total + wide(last.filled))
+}
+
+// One pass over the cells of so many states, width bytes each: whether a byte is over 2, how many are filled, and in starts which states have
+// a filled one.
+pub(crate) fn scan_states(cells: &[u8], states: u8, width: usize, starts: &mut Starts) -> Scanned
+    requires { ⌜ ScannedRequires (now cells) states width (now starts) ⌝ }
+    ensures { λ r. ⌜ StatesScanned (now (cells .entry)) states width r (now (starts .exit)) ⌝ }
+{
+    let mut total: usize = 0;
+    let mut at: usize = 0;
+    let mut s: u8 = 0;
+    while s < states {
+        let scanned = scan(&cells[at..at + width]);
+        match scanned {
+            Scanned::ByteOver => {
+                return Scanned::ByteOver;
+            }
+            Scanned::Filled(n) => {
+                total += n;
+                at += width;
+                if n == 0 {
+                    s += 1;
+                    continue;
+                }
+                starts[wide(s)] = 1;
+                s += 1;
+            }
+        }
+    }
+    Scanned::Filled(total)
 }

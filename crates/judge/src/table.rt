@@ -60,7 +60,7 @@ pub(crate) fn table_bytes_for(cells: usize) -> usize
     cells + COUNT_BYTES
 }
 
-// How many bytes a sheet's table has, the count included: what clearing and a query must be lent at least.
+// How many bytes a sheet's table has, the count included: what clearing, a query, stored_count and audit must be lent at least.
 pub fn table_size(sheet: &[u8]) -> usize
     ensures { λ r. ⌜ r ≡ tableBytes (now (sheet .entry)) ⌝ }
 {

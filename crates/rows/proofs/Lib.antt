@@ -6,3 +6,5 @@ pub mod tables
 pub mod solver
 -- lists of queries
 pub mod lists
+-- cells that follow from filled cells of their rows
+pub mod follows

@@ -75,8 +75,8 @@ pub record RefusalsInOrder : Type 0 where
       → ((reportedWrite answer .number ≡ k) × (reportedWrite answer .place ≡ m)) ↔ First (WriteFault p a r (length out)) k m
 
 -- What a call that checks a sheet first reports: of 1 to 10 the number k, at the place m, exactly where k is the lowest number of a fault
--- of the sheet, and m its place. The guard check, clearing, a query, the reading of the count, the reference, propose, commit and
--- shortest_failing say so of their reports.
+-- of the sheet, and m its place. The guard check, clearing, a query, the reading of the count, the reference, propose, commit,
+-- shortest_failing and audit say so of their reports.
 abbrev pub GivenInOrder : List ℕ → ℕ → ℕ → Type 0
 GivenInOrder s number place =
     (k m : ℕ) → 1 ≤ k → k ≤ 10 → ((number ≡ k) × (place ≡ m)) ↔ First (SheetFault s) k m

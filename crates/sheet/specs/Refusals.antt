@@ -34,13 +34,14 @@ numberOf (BindingFault n) = 10
 -- "11: queried state not below S."
 numberOf NoSuchState = 11
 -- document 01: "12: the plan has a loop (query only)."; since document 02 (b): "12 exactly when a loop can be reached from the queried
--- state"; document 02 (i): "A loop then reachable from state 0 falls under 12 in both calls", propose and commit
+-- state"; document 02 (i): "A loop then reachable from state 0 falls under 12 in both calls", propose and commit; document 02 (k): "A loop
+-- reachable from a state with a filled cell falls under 12", audit
 numberOf Loop = 12
 -- "13: S over 64 (reference only)."
 numberOf TooManyStates = 13
 -- "20: table buffer too short."; document 02 (f): "Number 20 now means four bytes more"
 numberOf TableShort = 20
--- "21: a table byte over 2 (query only)."; document 02 (f): "21 reads the cells alone"
+-- "21: a table byte over 2 (query only)."; document 02 (f): "21 reads the cells alone"; since document 02 (k) audit gives it too
 numberOf TableByte = 21
 -- "22: output buffer too short (calls that write a sheet or a body)."
 numberOf OutputShort = 22

@@ -210,7 +210,7 @@ fn binder_place(r: &[u8], k: usize) -> u8
 
 // The place just after node n's subtree, where its last child's subtree ends: it may be no node, and on bytes that are no rule the way to it may
 // pass places that are none, so these stay plain numbers.
-fn subtree_end(r: &[u8], n: Node) -> usize
+pub fn subtree_end(r: &[u8], n: Node) -> usize
     ensures { λ e. ⌜ e ≡ subtreeEnd (now (r .entry)) (n .0) ⌝ }
 {
     let mut at = n.0 as usize;

@@ -1,4 +1,5 @@
 // The trial driver: reads requests from standard input until it ends, and writes the result of each as text.
+mod audited;
 mod branch;
 mod children;
 mod convert;
@@ -42,6 +43,7 @@ fn answer(
         12 => branch::answer_propose(first),
         13 => branch::answer_commit(first, second),
         14 => recorded::answer(first, second, third),
+        15 => audited::answer(first, second),
         _ => false,
     }
 }

@@ -1,5 +1,7 @@
 //! The benchmark: the trial driver and this program, each a process that reads the same stored requests.
 
+use crate::audit_gen;
+use crate::audits;
 use crate::aut;
 use crate::aut_gen::{self, Line};
 use crate::branch_gen;
@@ -322,6 +324,68 @@ fn searching(name: &str, n: usize, index: u64) -> (Request, Request) {
     (request(sheet), request(vec![]))
 }
 
+/// A rule of so many nodes, its binders one inside the other above all else, so that nearly every mark may be at every node; below them
+/// pairs, each with a leaf and a modal node above the next.
+fn comb(r: &mut Rng, nodes: usize, binders: usize, entries: usize) -> Vec<[u8; 3]> {
+    let mut out: Vec<[u8; 3]> = (0..binders as u8).map(|k| [7 + r.below(2) as u8, k, k + 1]).collect();
+    loop {
+        let at = out.len() as u8;
+        let leaf = if r.chance(70) { [6, r.below(binders) as u8, 0] } else { [r.below(2) as u8, 0, 0] };
+        let mut modal = |next: u8| [4 + r.below(2) as u8, r.below(entries) as u8, next];
+        match nodes - out.len() {
+            0 | 1 => {
+                out.push(leaf);
+                return out;
+            }
+            2 | 3 => out.push(modal(at + 1)),
+            _ => {
+                let below = modal(at + 3);
+                out.extend([[2 + r.below(2) as u8, at + 1, at + 2], leaf, below]);
+            }
+        }
+    }
+}
+
+/// The table that queries of all states leave.
+fn left(sheet: &[u8]) -> Vec<u8> {
+    let p = oracle::read(sheet).expect("a valid sheet").parts;
+    let mut table = vec![0; p.table_len()];
+    for s in 0..p.states as u8 {
+        oracle::query(sheet, s, &mut table).expect("a plan without loops");
+    }
+    table
+}
+
+/// A sheet with a table that a supplier filled: 16 n transitions, n / 2 nodes, without loops.
+fn supplied(name: &str, n: usize, binders: usize, index: u64) -> (Vec<u8>, Vec<u8>) {
+    if name == AUDIT_K {
+        let (sheet, _) = key();
+        let table = left(&sheet);
+        return (sheet, table);
+    }
+    let (old, [_, branch, _]) = branchable(n, binders, index);
+    let mut sheet = vec![0; old.len() + 3];
+    branches::commit(&old, branch, branch_gen::likely(&old, branch), &mut sheet).expect("a branch that is taken");
+    let [plan, entries, _] = oracle::contents(&sheet).expect("a valid sheet").map(|(at, length)| &sheet[at..at + length]);
+    let mut r = Rng::new(SEED, 6_000_000 + 1000 * n as u64 + index);
+    let nodes = comb(&mut r, n / 2, binders, n / 4);
+    let sheet = oracle::assemble(plan, entries, &gen::list_body(&nodes));
+    let ok = oracle::read(&sheet).expect("a valid sheet");
+    let table = match name {
+        AUDIT_FULL => audit_gen::counted(audit_gen::full(&ok.parts, false)),
+        AUDIT_LIST => left(&sheet),
+        _ => vec![0; ok.parts.table_len()],
+    };
+    (sheet, table)
+}
+
+/// The request for an audit, and the same with a sheet of no bytes.
+fn auditing(name: &str, n: usize, binders: usize, index: u64) -> (Request, Request) {
+    let (sheet, table) = supplied(name, n, binders, index);
+    assert_eq!(audits::audit(&sheet, &table), Ok(true), "{name}, n = {n}");
+    (Request::Audit { sheet, table: table.clone() }, Request::Audit { sheet: vec![], table })
+}
+
 struct Program {
     path: String,
     args: Vec<String>,
@@ -406,9 +470,13 @@ const COMMIT_K: &str = "adding a branch to K";
 const RUNS: &str = "searching good runs";
 const RUNS_EARLY: &str = "searching runs, one bad early";
 const RUNS_DEEP: &str = "searching runs, deepest rule";
+const AUDIT_FULL: &str = "auditing a full table";
+const AUDIT_LIST: &str = "auditing the table of a list";
+const AUDIT_EMPTY: &str = "auditing an empty table";
+const AUDIT_K: &str = "auditing a table for K";
 
 /// Each with its request.
-const OPS: [(&str, u8); 30] = [
+const OPS: [(&str, u8); 34] = [
     (READING, 1),
     (REFERENCE, 3),
     (FIRST_QUERY, 4),
@@ -439,14 +507,19 @@ const OPS: [(&str, u8); 30] = [
     (RUNS, 14),
     (RUNS_EARLY, 14),
     (RUNS_DEEP, 14),
+    (AUDIT_FULL, 15),
+    (AUDIT_LIST, 15),
+    (AUDIT_EMPTY, 15),
+    (AUDIT_K, 15),
 ];
 
 /// The plots, each with what it shows and its calls. What is measured for K has one size and no plot.
-const PLOTS: [(&str, &str, Range<usize>); 4] = [
+const PLOTS: [(&str, &str, Range<usize>); 5] = [
     ("benchmark.svg", "Instructions for one request, and their ratio, by n", 0..12),
     ("benchmark-aut.svg", "The same for .aut texts", 12..21),
     ("benchmark-branches.svg", "The same for branches", 21..25),
     ("benchmark-recordings.svg", "The same for recordings", 27..30),
+    ("benchmark-audits.svg", "The same for audits", 30..33),
 ];
 
 fn stream(requests: &[Request], times: usize) -> Vec<u8> {
@@ -522,7 +595,7 @@ pub fn bench(trials: &str, numbers: &[u8], out: &str) -> i32 {
             continue;
         }
         let sizes = match name {
-            PROPOSE_K | COMMIT_K => &K_SIZE[..],
+            PROPOSE_K | COMMIT_K | AUDIT_K => &K_SIZE[..],
             RUNS | RUNS_EARLY | RUNS_DEEP => &RUN_SIZES,
             _ => &SIZES,
         };
@@ -560,6 +633,9 @@ pub fn bench(trials: &str, numbers: &[u8], out: &str) -> i32 {
                     (0..SHEETS as u64).map(|index| parking(name, n, binders, index)).unzip()
                 }
                 RUNS | RUNS_EARLY | RUNS_DEEP => (0..SHEETS as u64).map(|index| searching(name, n, index)).unzip(),
+                AUDIT_FULL | AUDIT_LIST | AUDIT_EMPTY | AUDIT_K => {
+                    (0..SHEETS as u64).map(|index| auditing(name, n, binders, index)).unzip()
+                }
                 LINE | PARENTHESES | NOTS | LONG_NUMBER => (typing(typed(name, n)), typing(vec![vec![]; SHEETS])),
                 _ => {
                     let made = (0..SHEETS as u64).map(|index| drawn(name, n, index)).collect();
@@ -698,7 +774,8 @@ fn page(rows: &[Row], missing: &[&str], start: &[f64], start_time: &[f64], each:
         formula, the lent table as its memo, a formula with shared parts for a pattern, a stack of waiting
         operators for a line, a hash table of the labels and a sort of the transitions for an .aut text, a
         search by halving, one through the transitions and one copy for a branch, a table of just the
-        size for each beginning of a recording; each call that takes a sheet reads it, as in the driver.",
+        size for each beginning of a recording, one search for loops and one pass over the cells for an
+        audit; each call that takes a sheet reads it, as in the driver.",
     );
     o += &paragraph(
         "Sheets grow in every part: n states, about 16 n transitions of 4 actions, 8 action entries of any
@@ -751,6 +828,16 @@ fn page(rows: &[Row], missing: &[&str], start: &[f64], start_time: &[f64], each:
         bad early: the rule fails on the first 2 actions of the second recording. The deepest rule has 64
         nodes and 6 binders, those on which a query nests deepest, with kinds exchanged so that it fails on
         no beginning. The figures of recordings are less that of the same request with a sheet of no bytes.",
+    );
+    o += &paragraph(
+        "Tables are audited for 4 sheets of n states, 2 n - 1 actions, 16 n transitions, n / 4 action entries,
+        n / 2 nodes and 1 to 6 binders. The binders stand one inside the other above all other nodes, which
+        are by turns a pair, a leaf, and a \"some\" or an \"every\". In a full table every cell with a right
+        mark is filled: where n is 128, that is 128 states, 64 nodes and 7 marks, 57,344 bytes
+        but for the marks that a binder's own node may not have. The table of a list is the one that queries
+        of all states leave; of an empty one no cell is filled. Then K with the table that its three states
+        leave. All get a yes. The figures of audits are less that of the same request with a sheet of no
+        bytes, and so they have in them the reading of the sheet.",
     );
     o += &paragraph(
         "Instructions are those of `valgrind --tool=callgrind`; times are the shortest of 9 runs, the programs

@@ -1,5 +1,7 @@
 //! Comparisons: stored vectors, the oracle with itself, and the trial driver with the oracle.
 
+use crate::audit_check;
+use crate::audit_gen;
 use crate::aut;
 use crate::aut_check;
 use crate::aut_gen;
@@ -298,6 +300,7 @@ pub fn compare(trials: &str, seed: u64, count: u64, numbers: &[u8], shrinking: b
     let (mut made, mut typed) = (pattern_check::Tally::default(), line_check::Tally::default());
     let (mut reported, mut drawn) = (report_check::Tally::default(), aut_check::Tally::default());
     let (mut parked, mut recorded) = (branch_check::Tally::default(), recording_check::Tally::default());
+    let mut audited = audit_check::Tally::default();
     let (mut done, mut differences, mut told) = (0u64, 0u64, 0);
     while done < count {
         let n = BATCH.min(count - done);
@@ -322,6 +325,7 @@ pub fn compare(trials: &str, seed: u64, count: u64, numbers: &[u8], shrinking: b
             drawn.count(r);
             parked.count(r);
             recorded.count(r);
+            audited.count(r);
             let want = protocol::expected(r);
             let text = String::from_utf8_lossy(&want);
             loops.count(r, &text);
@@ -397,6 +401,9 @@ pub fn compare(trials: &str, seed: u64, count: u64, numbers: &[u8], shrinking: b
     if numbers.contains(&14) {
         println!("{recorded}");
     }
+    if numbers.contains(&15) {
+        println!("{audited}");
+    }
     println!("seed {seed}: {done} requests compared, {differences} differences, {:.1} s", begun.elapsed().as_secs_f64());
     i32::from(differences > 0)
 }
@@ -434,6 +441,11 @@ fn describe(trials: &str, r: &Request) {
         }
         Request::Shortest { sheet, first, second } => {
             println!("    sheet {sheet:?}\n    recordings {first:?} and {second:?}")
+        }
+        Request::Audit { sheet, table } => {
+            let (cells, rest) = table.split_at(cells(sheet).min(table.len()));
+            let filled: Vec<(usize, u8)> = (0..cells.len()).map(|i| (i, cells[i])).filter(|v| v.1 != 0).collect();
+            println!("    sheet {sheet:?}\n    table of {} cells, those that are not 0 {filled:?}, then {rest:?}", cells.len())
         }
     }
     println!("    oracle {}", clip(&protocol::answers(&b)));
@@ -671,6 +683,35 @@ fn refitted(table: &[u8], was: usize, now: usize) -> Vec<u8> {
     out
 }
 
+/// Cells with a piece of them emptied that has some filled.
+fn emptied_pieces(cells: &[u8]) -> Vec<Vec<u8>> {
+    let mut out = Vec::new();
+    let mut step = cells.len();
+    while step > 0 {
+        for at in (0..cells.len()).step_by(step) {
+            let piece = at..(at + step).min(cells.len());
+            if cells[piece.clone()].iter().any(|&v| v != 0) && out.len() < 300 {
+                let mut c = cells.to_vec();
+                c[piece].fill(0);
+                out.push(c);
+            }
+        }
+        step /= 2;
+    }
+    out
+}
+
+/// Tables with a byte set to 0, a count that is off by as much as before.
+fn emptied(table: &[u8], cells: usize) -> Vec<Vec<u8>> {
+    let without = |i: usize| {
+        let mut t = table.to_vec();
+        t[i] = 0;
+        recount(table, cells, &mut t, cells);
+        t
+    };
+    (0..table.len()).filter(|&i| table[i] != 0).take(200).map(without).collect()
+}
+
 fn candidates(r: &Request) -> Vec<Request> {
     match r {
         Request::Read(s) => smaller_sheets(s).into_iter().map(Request::Read).collect(),
@@ -702,10 +743,7 @@ fn candidates(r: &Request) -> Vec<Request> {
                 out.push(Request::Query { sheet: s.clone(), state: *state, table: vec![0; t.len()] });
                 out.push(Request::Query { sheet: s, state: *state, table: t });
             }
-            for i in (0..table.len()).filter(|&i| table[i] != 0).take(200) {
-                let mut t = table.clone();
-                t[i] = 0;
-                recount(table, was, &mut t, was);
+            for t in emptied(table, was) {
                 out.push(Request::Query { sheet: sheet.clone(), state: *state, table: t });
             }
             for s in 0..*state {
@@ -851,6 +889,29 @@ fn candidates(r: &Request) -> Vec<Request> {
             smaller_sheets(sheet).iter().for_each(|s| put(s, first, second));
             recording_gen::lower(first).iter().for_each(|run| put(sheet, run, second));
             recording_gen::lower(second).iter().for_each(|run| put(sheet, first, run));
+            out
+        }
+        Request::Audit { sheet, table } => {
+            let was = cells(sheet);
+            let mut out = Vec::new();
+            let mut put = |sheet: &[u8], table: Vec<u8>| out.push(Request::Audit { sheet: sheet.to_vec(), table });
+            if table.len() >= was + 4 {
+                // cells emptied, in pieces of falling size, and then all that do not follow any more
+                for cells in emptied_pieces(&table[..was]) {
+                    let mut t = [&cells[..], &table[was..]].concat();
+                    put(sheet, audit_gen::following(sheet, &cells));
+                    recount(table, was, &mut t, was);
+                    put(sheet, t);
+                }
+            }
+            for s in smaller_sheets(sheet) {
+                let t = refitted(table, was, cells(&s));
+                if t.len() >= cells(&s) + 4 {
+                    put(&s, audit_gen::following(&s, &t[..cells(&s)]));
+                    put(&s, audit_gen::whole(&s));
+                }
+                put(&s, t);
+            }
             out
         }
     }

@@ -1,5 +1,6 @@
 //! Requests made from a seed: request number i of a seed is always the same.
 
+use crate::audit_gen;
 use crate::aut_gen;
 use crate::branch_gen;
 use crate::line_gen;
@@ -885,7 +886,7 @@ pub fn table_buffer_len(r: &mut Rng, cells: usize) -> usize {
 
 /// A count of filled cells, right most of the time; else off by a little, with a byte changed, with its bytes turned round,
 /// or anything.
-fn count(r: &mut Rng, filled: u32) -> [u8; 4] {
+pub fn count(r: &mut Rng, filled: u32) -> [u8; 4] {
     let mut right = filled.to_le_bytes();
     if r.chance(75) {
         return right;
@@ -946,7 +947,8 @@ pub fn states(r: &mut Rng, sheet: &[u8], count: usize) -> Vec<u8> {
 const WORK: u64 = 60_000;
 
 /// Request number `index` of a seed. The first three are the deepest chain of cells that we know how to make; the next three have
-/// its plan with a loop at the last state but one or at the last, and the next two its rule on runs as long as they may be.
+/// its plan with a loop at the last state but one or at the last, the next two its rule on runs as long as they may be, and the next
+/// its table with all cells filled.
 pub fn request_at(seed: u64, index: u64, numbers: &[u8]) -> Request {
     let mut r = Rng::new(seed, index);
     let number = [4, 5, 10][index as usize % 3];
@@ -968,6 +970,9 @@ pub fn request_at(seed: u64, index: u64, numbers: &[u8]) -> Request {
     }
     if (6..8).contains(&index) && numbers.contains(&14) {
         return recording_gen::deepest(&mut r);
+    }
+    if index == 8 && numbers.contains(&15) {
+        return audit_gen::deepest(&mut r);
     }
     request(&mut r, numbers)
 }
@@ -1049,6 +1054,7 @@ fn request(r: &mut Rng, numbers: &[u8]) -> Request {
         12 => branch_gen::propose(r),
         13 => branch_gen::commit(r),
         14 => recording_gen::request(r),
+        15 => audit_gen::request(r),
         _ => {
             let mut b = bodies(r);
             if r.chance(1) {

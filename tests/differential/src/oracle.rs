@@ -266,7 +266,7 @@ pub fn meets(m: &Mask, a: u8) -> bool {
 }
 
 /// For each state the numbers of its transitions: `first[s]..first[s + 1]`.
-fn successors(p: &Parts) -> [u16; 130] {
+pub fn successors(p: &Parts) -> [u16; 130] {
     let mut first = [0u16; 130];
     for c in p.transitions.chunks_exact(3) {
         first[c[0] as usize + 1] += 1;
@@ -403,7 +403,7 @@ fn look_at(block: &[u8]) -> (u8, u8) {
 }
 
 /// The largest byte of the cells, and how many are not 0.
-fn look(cells: &[u8]) -> (u8, u32) {
+pub fn look(cells: &[u8]) -> (u8, u32) {
     // at most 255, and whole steps of 32
     let (blocks, rest) = cells.as_chunks::<224>();
     let (mut most, last) = look_at(rest);
@@ -417,14 +417,14 @@ fn look(cells: &[u8]) -> (u8, u32) {
 }
 
 #[derive(Clone, Copy)]
-enum Met {
+pub enum Met {
     Unseen,
     Open,
     Done,
 }
 
 /// Can a loop be reached from a state? Depth first: a transition to a state that is still open closes one.
-fn loop_reachable(p: &Parts, first: &[u16; 130], met: &mut [Met; 128], s: usize) -> bool {
+pub fn loop_reachable(p: &Parts, first: &[u16; 130], met: &mut [Met; 128], s: usize) -> bool {
     met[s] = Met::Open;
     for c in p.transitions[3 * first[s] as usize..3 * first[s + 1] as usize].chunks_exact(3) {
         let to = c[2] as usize;
@@ -533,6 +533,21 @@ pub fn query(b: &[u8], state: u8, table: &mut [u8]) -> Result<(bool, usize), Ref
 pub fn verdict(p: &Parts, masks: &[Mask], state: usize) -> bool {
     let mut table = vec![0; p.cells()];
     Query { p, first: successors(p), masks, table: &mut table, visits: 0 }.cell(0, 0, state)
+}
+
+/// The cells of a table, each with its solution: those whose mark, node and state are chosen, from states from which no loop can be
+/// reached, and all that are needed for them.
+pub fn solved(p: &Parts, chosen: impl Fn(usize, usize, usize) -> bool) -> Vec<u8> {
+    let (mut table, looping) = (vec![0; p.cells()], loop_reachable_states(p));
+    let mut q = Query { p, first: successors(p), masks: &masks(p), table: &mut table, visits: 0 };
+    for s in (0..p.states).filter(|s| looping >> s & 1 == 0) {
+        for n in 0..p.node_count() {
+            for m in (0..=p.binders).filter(|&m| chosen(m, n, s)) {
+                q.cell(m, n, s);
+            }
+        }
+    }
+    table
 }
 
 pub fn write(plan: &[u8], acts: &[u8], rule: &[u8], out: &mut [u8]) -> Result<usize, Refusal> {

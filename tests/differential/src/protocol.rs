@@ -2,7 +2,7 @@
 
 use crate::branches::{self, Branch, Proposal};
 use crate::recordings::{self, Which};
-use crate::{aut, lines, oracle, patterns, reports};
+use crate::{audits, aut, lines, oracle, patterns, reports};
 use std::io::Write;
 
 #[derive(Clone, PartialEq, Eq, Debug)]
@@ -21,6 +21,7 @@ pub enum Request {
     Propose { sheet: Vec<u8>, branch: Branch },
     Commit { sheet: Vec<u8>, branch: Branch, proposal: Proposal, out_len: u16, fill: u8 },
     Shortest { sheet: Vec<u8>, first: Vec<u8>, second: Vec<u8> },
+    Audit { sheet: Vec<u8>, table: Vec<u8> },
 }
 
 fn blob(out: &mut Vec<u8>, b: &[u8]) {
@@ -45,6 +46,7 @@ impl Request {
             Request::Propose { .. } => 12,
             Request::Commit { .. } => 13,
             Request::Shortest { .. } => 14,
+            Request::Audit { .. } => 15,
         }
     }
 
@@ -108,6 +110,7 @@ impl Request {
                 out.push(*fill);
             }
             Request::Shortest { sheet, first, second } => [sheet, first, second].into_iter().for_each(|b| blob(out, b)),
+            Request::Audit { sheet, table } => [sheet, table].into_iter().for_each(|b| blob(out, b)),
         }
     }
 }
@@ -128,6 +131,7 @@ pub enum View<'a> {
     Propose { sheet: &'a [u8], branch: Branch },
     Commit { sheet: &'a [u8], branch: Branch, proposal: Proposal, out_len: usize, fill: u8 },
     Shortest { sheet: &'a [u8], first: &'a [u8], second: &'a [u8] },
+    Audit { sheet: &'a [u8], table: &'a [u8] },
 }
 
 pub struct Input<'a> {
@@ -194,6 +198,7 @@ impl<'a> Input<'a> {
                 fill: self.byte()?,
             },
             14 => View::Shortest { sheet: self.blob()?, first: self.blob()?, second: self.blob()? },
+            15 => View::Audit { sheet: self.blob()?, table: self.blob()? },
             _ => return None,
         })
     }
@@ -327,6 +332,10 @@ pub fn answer(request: &View, out: &mut Vec<u8>) {
             hex(&format!("shortest {n} {p} {which}"), part, out);
             Ok(())
         }
+        View::Audit { sheet, table } => match audits::audit(sheet, table) {
+            Ok(yes) => writeln!(out, "audit 0 0 {yes}"),
+            Err((n, p)) => writeln!(out, "audit {n} {p} false"),
+        },
     };
 }
 

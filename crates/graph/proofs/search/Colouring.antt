@@ -23,6 +23,12 @@ unfolding unseen
 all-unseen zero = refl
 all-unseen (suc n) = ap suc (all-unseen n)
 
+pub unseen-most : (l : List ℕ) → unseen l ≤ length l
+unfolding unseen
+unseen-most [] = omega arith
+unseen-most (zero ∷ l) = omega (arith, unseen-most l)
+unseen-most (suc x ∷ l) = omega (arith, unseen-most l)
+
 -- ---- a colour stored
 
 pub unseen-set : (l : List ℕ) (i k : ℕ) → unseen (set l i (suc k)) ≤ unseen l

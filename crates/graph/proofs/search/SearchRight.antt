@@ -146,7 +146,7 @@ module _ (p : List ℕ) (kept : WellFormedPlan p) (index colours : List ℕ) (co
       let x = successor-stands p kept u v m in
       way-done (subst (λ (z : ℕ). 1 < getD colours z 0) (x .3) (coloured .done u h .leads-on (x .0) (x .1) (x .2))) w
 
-  all-indexed : (s : ℕ) → 1 < getD colours s 0 → (u : ℕ) → Reachable (successors p) s u → Indexed p index u
+  pub all-indexed : (s : ℕ) → 1 < getD colours s 0 → (u : ℕ) → Reachable (successors p) s u → Indexed p index u
   all-indexed s h u (inl e) = coloured .done u (subst (λ (v : ℕ). 1 < getD colours v 0) (sym e) h) .indexed
   all-indexed s h u (inr w) = coloured .done u (way-done h w) .indexed
 

@@ -9,7 +9,6 @@ use native.Mathlib.Omega.{arith}
 use lib.Dec.{ltb, leb}
 use lib.ListN.{length}
 use borrow.Author.Tests.{ltb-true, ltb-false, le-leb, lt-leb, leb-true, leb-false, eqb-true, eqb-false}
-use Rattle.sheet.specs.Bytes.{lowest}
 use Rattle.sheet.specs.Contents.{planBody}
 use Rattle.sheet.specs.Plan.{stateCount}
 use Rattle.sheet.specs.Refusals.{numberOf, placeOf, require, andThen}
@@ -23,8 +22,6 @@ use Rattle.sheet.specs.RefusalOrder.{GivenInOrder}
 use Rattle.sheet.proofs.acceptance.Order.{given-in-order}
 use Rattle.sheet.proofs.acceptance.Numbers.{low-refusal, refused-number}
 use Rattle.sheet.proofs.acceptance.Sheet.{accepted-iff, not-refused}
-use Rattle.sheet.proofs.checks.Checks.{none-found}
-use Rattle.sheet.proofs.checks.Lowest.{lowest-bound, lowest-found}
 use Rattle.graph.specs.Loops.{LoopReachable}
 use Rattle.graph.specs.LoopTest.{loopFree}
 use Rattle.graph.specs.Successors.{successors}
@@ -39,6 +36,7 @@ use Rattle.judge.specs.CallNumbers.{ClearNumbers, StateThere, NoLoopAhea
 use Rattle.judge.specs.declared.Cleared.{Cleared}
 use Rattle.judge.specs.declared.Queried.{Queried}
 use Rattle.judge.specs.declared.Counted.{Counted}
+use Rattle.judge.proofs.steps.ScanSteps.{bytes-small, byte-over}
 use Rattle.judge.proofs.lists.JustCleared.{cleared-length, cleared-below, cleared-above}
 
 -- the refusal of a check that failed
@@ -74,9 +72,6 @@ module _ (s : List ℕ) where
     abbrev Case : Check → Type 0
     Case c = QueryCase s state t (reportOf c .number) (reportOf c .place)
 
-    abbrev over : ℕ → Bool
-    over i = ltb 2 (byteAt t i)
-
     by-count : CellsRight s state t → (b : Bool) → countRight s t ≡ b
         → QueryCase s state t (reportedQuery (answerQueried (resultOf s state t) Passed b) .number) (reportedQuery (answerQueried (resultOf s state t) Passed b) .place)
     unfolding countRight
@@ -84,12 +79,8 @@ module _ (s : List ℕ) where
     by-count q false h = miscounted q (eqb-false (storedCount s t) (filledCells s t) h)
 
     by-bytes : TableThere s state t → (b : Bool) → bytesRight (cellBytes s) t ≡ b → Case (require b TableByte)
-    unfolding bytesRight
-    by-bytes q true h = by-count (record { there = q; small = λ i l. ltb-false 2 (byteAt t i) (none-found over (cellBytes s) .0 h i l) }) (countRight s t) refl
-    by-bytes q false h =
-        let apart : lowest over (cellBytes s) ≢ cellBytes s = eqb-false (lowest over (cellBytes s)) (cellBytes s) h in
-        let l : lowest over (cellBytes s) < cellBytes s = omega (arith, lowest-bound over (cellBytes s)) in
-        bad-byte q (lowest over (cellBytes s)) l (ltb-true 2 _ (lowest-found over (cellBytes s) l))
+    by-bytes q true h = by-count (record { there = q; small = bytes-small (cellBytes s) t h }) (countRight s t) refl
+    by-bytes q false h = let f = byte-over (cellBytes s) t h in bad-byte q (f .0) (f .1) (f .2)
 
     by-length : NoLoopAhead s state → (b : Bool) → leb (tableBytes s) (length t) ≡ b → Case (andThen (require b TableShort) (require (bytesRight (cellBytes s) t) TableByte))
     by-length q true h = by-bytes (record { free = q; long = leb-true (tableBytes s) (length t) h }) (bytesRight (cellBytes s) t) refl
@@ -274,15 +265,15 @@ module _ (s : List ℕ) where
     abbrev size-check : Check
     size-check = require (leb (tableBytes s) (length t)) TableShort
 
-    clear-unread : (x : Refusal) → sheetCheck s ≡ Failed x → clearCheck s t ≡ Failed x
+    pub clear-unread : (x : Refusal) → sheetCheck s ≡ Failed x → clearCheck s t ≡ Failed x
     unfolding clearCheck
     clear-unread x e = rw e
 
-    clear-short : WellFormedSheet s → length t < tableBytes s → clearCheck s t ≡ Failed TableShort
+    pub clear-short : WellFormedSheet s → length t < tableBytes s → clearCheck s t ≡ Failed TableShort
     unfolding clearCheck
     clear-short k h = rw (passed k, lt-leb (tableBytes s) (length t) h)
 
-    clear-fits : WellFormedSheet s → tableBytes s ≤ length t → clearCheck s t ≡ Passed
+    pub clear-fits : WellFormedSheet s → tableBytes s ≤ length t → clearCheck s t ≡ Passed
     unfolding clearCheck
     clear-fits k h = rw (passed k, le-leb (tableBytes s) (length t) h)
 

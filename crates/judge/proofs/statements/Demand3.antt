@@ -115,8 +115,9 @@ module _ (s : List ℕ) (accepted : sheetCheck s ≡ Passed) where
   start : (state : ℕ) → Takes s accepted state → Cells (cell 0 0 state)
   start = takes-valid s accepted
 
-  table1 : (state : ℕ) → Takes s accepted state → (solutionOf s (cell 0 0 state) ≡ true) ↔ Verdict s state
-  table1 state h = Iff·trans (verdict-truth (planBody s) (actionsBody s) (ruleBody s) bodies state (below state h) (settles state h)) (verdict-holds s state (below state h))
+  pub table1 : (state : ℕ) → Cells (cell 0 0 state) → (solutionOf s (cell 0 0 state) ≡ true) ↔ Verdict s state
+  table1 state v =
+      Iff·trans (verdict-truth (planBody s) (actionsBody s) (ruleBody s) bodies state (v .state-below) (v .state-settled)) (verdict-holds s state (v .state-below))
 
   -- from a table just cleared
   module _ (t : List ℕ) (fits : tableBytes s ≤ length t) (states : List ℕ) where
@@ -266,7 +267,7 @@ module _ (s : List ℕ) (accepted : sheetCheck s ≡ Passed) (t : List ℕ) (fit
       number-of state q (inr a) = (λ n. refuses-others s accepted state (a .0), λ r e. refuses (ltb state (stateCount (planBody s))) (sym (a .1) ∙ e))
 
       verdict-of : (state : ℕ) (q : QueryReport) → Answer (planBody s) (solutionOf s) state q → q .number ≡ 0 → (q .verdict ≡ true) ↔ Verdict s state
-      verdict-of state q (inl a) n = Iff·trans (λ e. sym (a .2) ∙ e, λ e. a .2 ∙ e) (table1 s accepted state (a .0))
+      verdict-of state q (inl a) n = Iff·trans (λ e. sym (a .2) ∙ e, λ e. a .2 ∙ e) (table1 s accepted state (start s accepted state (a .0)))
       verdict-of state q (inr a) n = absurd (refuses (ltb state (stateCount (planBody s))) (sym (a .1) ∙ n))
 
 pub demand3 : Demand3

@@ -5,8 +5,9 @@ use native.Mathlib.Nat.{mul-le-mul}
 use Rattle.sheet.specs.Contents.{ruleBody}
 use Rattle.sheet.specs.Rule.{binderCount}
 use Rattle.sheet.proofs.acceptance.Parts.{bodies-kept}
+use Rattle.graph.specs.Search.{mostStates}
 use Rattle.judge.specs.Cells.{cellBytes}
-use Rattle.judge.specs.LargestTable.{mostStates, mostNodes, mostBinders, mostCells, EveryTableFits}
+use Rattle.judge.specs.LargestTable.{mostNodes, mostBinders, mostCells, EveryTableFits}
 
 pub every-table-fits : EveryTableFits
 every-table-fits s accepted =

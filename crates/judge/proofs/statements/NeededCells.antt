@@ -4,7 +4,7 @@ use mathlib.Core.Path.{_≡_, refl, sym, subst}
 use mathlib.Core.Bool.{Bool, true, false, true≢false}
 use mathlib.Core.Logic.{_⊎_, _↔_, inl, inr}
 use mathlib.Core.List.{List, [], _∷_, map, List·Memᴰ, List·Memᴰ·head, List·Memᴰ·tail, List·Memᴰ·not-nil, List·Memᴰ·cases-cons}
-use Rattle.sheet.specs.Contents.{planBody, ruleBody}
+use Rattle.sheet.specs.Contents.{ruleBody}
 use Rattle.sheet.specs.Reading.{sheetCheck}
 use Rattle.sheet.specs.declared.Check.the-variants.{Passed}
 use Rattle.sheet.proofs.acceptance.Parts.{bodies-kept}
@@ -17,7 +17,7 @@ use Rattle.rows.proofs.tables.Among.{or-cases, or-left, or-right, among-find, m
 use Rattle.judge.specs.Cells.{Cell, cell, enough, positionOf, writtenRows, InTable}
 use Rattle.judge.specs.Demand3.{NeededFor}
 use Rattle.judge.proofs.cells.CellLayout.{position-apart, valid-in}
-use Rattle.judge.proofs.cells.Ranks.{rank, rank-enough}
+use Rattle.judge.proofs.cells.Ranks.{rank-enough}
 use Rattle.judge.proofs.statements.OneSolution.{Settled, Ranked, written-falls}
 
 module _ (s : List ℕ) (accepted : sheetCheck s ≡ Passed) where

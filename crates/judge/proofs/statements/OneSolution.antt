@@ -44,11 +44,11 @@ module _ (s : List ℕ) (accepted : sheetCheck s ≡ Passed) where
   abbrev pub Settled : Cell → Type 0
   Settled = Valid (planBody s) (actionsBody s) (ruleBody s)
 
-  valid : (c : Cell) → LoopFreeCell s c → Settled c
-  valid c q = counted s accepted c (q .of-sheet) (free-exactly-at (planBody s) (bodies-kept s accepted .plan-kept) (c .state) (q .of-sheet .state-below) .1 (q .no-loop))
+  pub free-settled : (c : Cell) → LoopFreeCell s c → Settled c
+  free-settled c q = counted s accepted c (q .of-sheet) (free-exactly-at (planBody s) (bodies-kept s accepted .plan-kept) (c .state) (q .of-sheet .state-below) .1 (q .no-loop))
 
-  free : (c : Cell) → Settled c → LoopFreeCell s c
-  free c v = record { of-sheet = uncounted s accepted c v; no-loop = free-exactly-at (planBody s) (bodies-kept s accepted .plan-kept) (c .state) (v .state-below) .0 (v .state-settled) }
+  pub settled-free : (c : Cell) → Settled c → LoopFreeCell s c
+  settled-free c v = record { of-sheet = uncounted s accepted c v; no-loop = free-exactly-at (planBody s) (bodies-kept s accepted .plan-kept) (c .state) (v .state-below) .0 (v .state-settled) }
 
   abbrev pub Ranked : (Cell → Row Cell) → Type 0
   Ranked R = Falling R Settled (rank (planBody s) (ruleBody s))
@@ -78,7 +78,7 @@ module _ (s : List ℕ) (accepted : sheetCheck s ≡ Passed) where
 
       pub solves : OneSolution s R Counts (value R enough)
       solves = record {
-        of-sheet = λ c g. free c (settles c g);
+        of-sheet = λ c g. settled-free c (settles c g);
         entries-count = closed;
         no-return = λ c g w. absurd (omega (arith, way-falls R falls (settles c g) w .1));
         solves = record { row = λ c g. value-row R among enough c g (enough-for c g) };
@@ -89,14 +89,14 @@ module _ (s : List ℕ) (accepted : sheetCheck s ≡ Passed) where
     solves-from c v = solves (ComesTo R c) (λ d g. comes-settled c d v g) (λ d e g m. comes-on R c d e g m)
 
     pub solves-all : OneSolution s R (LoopFreeCell s) (value R enough)
-    solves-all = solves (LoopFreeCell s) valid
-        (λ c d q m. free d (each-at (λ e. Settled e × (rank (planBody s) (ruleBody s) e < rank (planBody s) (ruleBody s) c)) (R c .entries) (falls .falls c (valid c q)) d m .0))
+    solves-all = solves (LoopFreeCell s) free-settled
+        (λ c d q m. settled-free d (each-at (λ e. Settled e × (rank (planBody s) (ruleBody s) e < rank (planBody s) (ruleBody s) c)) (R c .entries) (falls .falls c (free-settled c q)) d m .0))
 
 pub one-solution : RowsHaveOneSolution
 one-solution = record {
-  queried = λ s accepted state h none. free s accepted (cell 0 0 state) (root-valid (bodies-kept s accepted .rule-kept) state h (free-exactly-at (planBody s) (bodies-kept s accepted .plan-kept) state h .1 none));
-  written = λ s accepted c q. (value (writtenRows s) enough, solves-from s accepted (writtenRows s) (written-falls s accepted) c (valid s accepted c q));
-  changed = λ s accepted t c q. (value (changedRows s t) enough, solves-from s accepted (changedRows s t) (changed-falls s accepted t) c (valid s accepted c q));
+  queried = λ s accepted state h none. settled-free s accepted (cell 0 0 state) (root-valid (bodies-kept s accepted .rule-kept) state h (free-exactly-at (planBody s) (bodies-kept s accepted .plan-kept) state h .1 none));
+  written = λ s accepted c q. (value (writtenRows s) enough, solves-from s accepted (writtenRows s) (written-falls s accepted) c (free-settled s accepted c q));
+  changed = λ s accepted t c q. (value (changedRows s t) enough, solves-from s accepted (changedRows s t) (changed-falls s accepted t) c (free-settled s accepted c q));
   all-written = λ s accepted. (value (writtenRows s) enough, solves-all s accepted (writtenRows s) (written-falls s accepted));
   all-changed = λ s accepted t. (value (changedRows s t) enough, solves-all s accepted (changedRows s t) (changed-falls s accepted t));
 }

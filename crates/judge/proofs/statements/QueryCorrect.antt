@@ -3,11 +3,11 @@ use Prim.Native.Nat.{ℕ, _+_, _≤_, _<_}
 use mathlib.Core.Path.{_≡_, refl, sym, ap, ap₂, subst, _∙_}
 use mathlib.Core.Bool.{Bool, true, false, _&&_}
 use mathlib.Core.List.{List}
-use mathlib.Core.Logic.{_≢_}
+use mathlib.Core.Logic.{_⊎_, _≢_, inl, inr}
 use native.Mathlib.Omega.{arith}
 use lib.Dec.{ltb, leb}
 use lib.ListN.{length}
-use borrow.Author.Tests.{eq-eqb, eqb-true, ltb-false, leb-true}
+use borrow.Author.Tests.{eq-eqb, eqb-true, leb-true}
 use Rattle.sheet.specs.Contents.{planBody, actionsBody, ruleBody}
 use Rattle.sheet.specs.Plan.{stateCount}
 use Rattle.sheet.specs.Refusals.{require, andThen}
@@ -17,7 +17,7 @@ use Rattle.sheet.specs.declared.Check.{Check}
 use Rattle.sheet.specs.declared.Check.the-variants.{Passed, Failed}
 use Rattle.sheet.proofs.acceptance.Numbers.{refused-number}
 use Rattle.sheet.proofs.acceptance.Parts.{bodies-kept}
-use Rattle.sheet.proofs.checks.Checks.{passed-then, passed-require, none-found}
+use Rattle.sheet.proofs.checks.Checks.{passed-then, passed-require}
 use Rattle.graph.specs.LoopTest.{loopFree}
 use Rattle.rows.specs.Rows.{Needed, value, need}
 use Rattle.rows.specs.Tables.{byteAt, empty, filled, byteOf, fills, query, verdict, visits, table}
@@ -36,6 +36,7 @@ use Rattle.judge.proofs.cells.CountLayout.{cells-byte, cells-length}
 use Rattle.judge.proofs.cells.Ranks.{rank}
 use Rattle.judge.proofs.cells.ValidCells.{Valid}
 use Rattle.judge.proofs.lists.SheetLists.{takes, takes-valid, Fine, holds, same-byte, fine-after}
+use Rattle.judge.proofs.steps.ScanSteps.{bytes-small}
 use Rattle.judge.proofs.statements.NeededCells.{needed-at, at-needed}
 use Rattle.judge.proofs.statements.OneSolution.{Settled, changed-falls, solves-from}
 
@@ -72,10 +73,10 @@ module _ (s : List ℕ) (state : ℕ) (t : List ℕ) (passed : queryCheck s stat
       (passed-require (loopFree (planBody s) state) Loop (loop-passed .0))
 
   fine : Fine s accepted t
-  unfolding bytesRight countRight
+  unfolding countRight
   fine = record {
     long = leb-true (tableBytes s) (length t) (passed-require _ TableShort (table-passed .0));
-    small = λ i l. ltb-false 2 (byteAt t i) (none-found (λ i. ltb 2 (byteAt t i)) (cellBytes s) .0 (passed-require _ TableByte (table-passed .1)) i l);
+    small = bytes-small (cellBytes s) t (passed-require _ TableByte (table-passed .1));
     counted = eqb-true (storedCount s t) (filledCells s t) right;
   }
 
@@ -128,7 +129,7 @@ module _ (s : List ℕ) (state : ℕ) (t : List ℕ) (passed : queryCheck s stat
   was-empty : (i : ℕ) → i < cellBytes s → empty (byteAt held i) ≡ empty (byteAt t i)
   was-empty i h = ap empty (cells-byte s t i h)
 
-  filled-here : (d : Cell) → InTable s d → cellByte s t d ≡ 0 → Needed (changedRows s t) v c d → cellByte s u d ≡ byteOf (v d)
+  pub filled-here : (d : Cell) → InTable s d → cellByte s t d ≡ 0 → Needed (changedRows s t) v c d → cellByte s u d ≡ byteOf (v d)
   filled-here d h e n =
       let i = positionOf (ruleBody s) d in
       new-byte i (position-inside s d h)
@@ -136,15 +137,21 @@ module _ (s : List ℕ) (state : ℕ) (t : List ℕ) (passed : queryCheck s stat
       ∙ at-needed s accepted (changedRows s t) (changed-falls s accepted t) c settled d n)
       ∙ ap (λ (x : Cell). byteOf (v x)) (position-back s d h)
 
-  same-here : (d : Cell) → InTable s d → (cellByte s t d ≡ 0 → Needed (changedRows s t) v c d → ⊥) → cellByte s u d ≡ cellByte s t d
-  same-here d h none = go (Fills (positionOf (ruleBody s) d)) refl
+  -- a cell was empty and is needed, or its byte is as it was
+  pub cell-cases : (d : Cell) → InTable s d → ((cellByte s t d ≡ 0) × Needed (changedRows s t) v c d) ⊎ (cellByte s u d ≡ cellByte s t d)
+  cell-cases d h = go (Fills (positionOf (ruleBody s) d)) refl
     where
-      go : (b : Bool) → Fills (positionOf (ruleBody s) d) ≡ b → cellByte s u d ≡ cellByte s t d
+      go : (b : Bool) → Fills (positionOf (ruleBody s) d) ≡ b → ((cellByte s t d ≡ 0) × Needed (changedRows s t) v c d) ⊎ (cellByte s u d ≡ cellByte s t d)
       go true e =
           let q = fills-true (positionOf (ruleBody s)) held l (positionOf (ruleBody s) d) e in
-          absurd (none (eqb-true (cellByte s t d) 0 (sym (was-empty _ (position-inside s d h)) ∙ q .0))
-          (needed-at s accepted (changedRows s t) (changed-falls s accepted t) c settled d h (q .1)))
-      go false e = old-byte (positionOf (ruleBody s) d) (position-inside s d h) e
+          inl (
+            eqb-true (cellByte s t d) 0 (sym (was-empty _ (position-inside s d h)) ∙ q .0),
+            needed-at s accepted (changedRows s t) (changed-falls s accepted t) c settled d h (q .1),
+          )
+      go false e = inr (old-byte (positionOf (ruleBody s) d) (position-inside s d h) e)
+
+  pub same-here : (d : Cell) → InTable s d → (cellByte s t d ≡ 0 → Needed (changedRows s t) v c d → ⊥) → cellByte s u d ≡ cellByte s t d
+  same-here d h none = elim (cell-cases d h) [ inl q ↦ absurd (none (q .0) (q .1)) | inr e ↦ e ]
 
   counted : (i : ℕ) → i < cellBytes s → Fills i ≡ (empty (byteAt t i) && filled (byteAt u i))
   counted i h = go (empty (byteAt t i)) (Fills i) refl refl

@@ -1,14 +1,14 @@
 -- What one pass over the nodes of a rule shows of its binders: k of them stand before node n.
-use Prim.Native.Nat.{ℕ, _+_, _<_}
+use Prim.Native.Nat.{ℕ, zero, suc, _+_, _<_, _≤_}
 use mathlib.Core.Path.{_≡_, refl, sym, ap, _∙_}
-use mathlib.Core.Bool.{true, false}
+use mathlib.Core.Bool.{Bool, true, false}
 use mathlib.Core.List.{List}
 use native.Mathlib.Omega.{arith}
 use native.Mathlib.Numerals.{add-one}
 use native.Mathlib.Decide.{decLt}
-use Rattle.sheet.specs.Rule.{nodeCount, isBinder, bindersBefore, binderCount}
+use Rattle.sheet.specs.Rule.{nodeCount, isBinder, oneIf, bindersBefore, binderCount, binderNode}
 use Rattle.sheet.specs.WellFormed.{Binds}
-use Rattle.sheet.proofs.nodes.Binders.{binders-next, binders-rise}
+use Rattle.sheet.proofs.nodes.Binders.{binders-next, binders-rise, binder-node}
 
 module _ (r : List ℕ) where
   pub passed-none : 0 ≡ bindersBefore r 0
@@ -34,3 +34,20 @@ module _ (r : List ℕ) where
 
       pub binds : Binds r n k
       binds = record { among = l; is-binder = e; numbered = sym passed }
+
+  -- below B there is a binder of each number
+  binder-stands : (n k : ℕ) → k < bindersBefore r n → n ≤ nodeCount r → (b : ℕ) × Binds r b k
+  unfolding bindersBefore
+  binder-stands zero k h l = absurd (omega arith)
+  binder-stands (suc n) k h l = go (isBinder r n) refl h (binder-stands n k)
+    where
+      go : (b : Bool) → isBinder r n ≡ b → k < bindersBefore r n + oneIf b → (k < bindersBefore r n → n ≤ nodeCount r → (b : ℕ) × Binds r b k) → (b : ℕ) × Binds r b k
+      go false q m rec = rec (omega arith) (omega arith)
+      go true q m rec =
+          elim (decLt k (bindersBefore r n)) [
+            | yes g ↦ rec g (omega arith)
+            | no g ↦ (n, record { among = omega arith; is-binder = q; numbered = omega arith })
+          ]
+
+  pub binder-below : (k : ℕ) → k < binderCount r → binderNode r k < nodeCount r
+  binder-below k h = let w = binder-stands (nodeCount r) k h (omega arith) in omega (arith, binder-node r (w .0) k (w .1), w .1 .among)

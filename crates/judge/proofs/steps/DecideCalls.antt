@@ -20,8 +20,8 @@ use Rattle.judge.proofs.cells.BindersAbove.{bound-above, above-below, a
 use Rattle.judge.proofs.cells.Ranks.{falling}
 use Rattle.judge.proofs.cells.CellLayout.{layout}
 use Rattle.judge.proofs.cells.CellRows.{pair-row, outer-row, fixpoint-row}
-use Rattle.judge.proofs.steps.FollowWalk.{walkRank}
-use Rattle.judge.proofs.steps.DecideSteps.{ValidAt, rowAt, rankAt, positionAt, kindAt, xAt, yAt, valid, decidable}
+use Rattle.judge.proofs.steps.Turns.{walkRank}
+use Rattle.judge.proofs.steps.DecideSteps.{ValidAt, rowAt, rankAt, positionAt, kindAt, xAt, yAt, valid, decidable, prepared-node, prepared-small}
 use Rattle.sheet.proofs.acceptance.Parts.{bodies-kept}
 
 -- the byte at which the code finds a cell
@@ -34,12 +34,10 @@ module _ {s index t : List ℕ} {m n st : ℕ} (d : DecideRequires s index t (ce
   is-valid = valid s (d .accepted) index t (cell m n st) d
 
   pub node-at : NodeAt s index n
-  node-at = record { accepted = d .accepted; offset-is = d .prepared .offset-is; node-below = d .node-below }
+  node-at = prepared-node (d .accepted) (d .prepared) (d .node-below)
 
   pub index-small : (getD index nodesAt 0 < 256) × (getD index marksAt 0 < 256)
-  index-small =
-      let k = bodies-kept s (d .accepted) .rule-kept in
-      (omega (arith, d .prepared .nodes-are, k .few-nodes), omega (arith, d .prepared .marks-are, k .few-binders))
+  index-small = prepared-small (d .accepted) (d .prepared)
 
   pub cell-inside : {at : ℕ} → at ≡ positionAt s (cell m n st) → at < length t
   cell-inside e = omega (arith, layout .inside (cell m n st) is-valid, d .room)

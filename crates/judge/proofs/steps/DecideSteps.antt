@@ -6,7 +6,7 @@ use mathlib.Core.List.{List}
 use native.Mathlib.Omega.{arith}
 use native.Mathlib.Numerals.{add-one}
 use native.Mathlib.Nat.{mul-le-mul}
-use lib.ListN.{length, set}
+use lib.ListN.{length, getD, set}
 use lib.Dec.{ltb}
 use borrow.Author.Tests.{eq-eqb, ne-eqb, ltb-true}
 use Rattle.sheet.specs.Contents.{planBody, actionsBody, ruleBody}
@@ -26,7 +26,7 @@ use Rattle.judge.specs.Cells.{Cell, opened, outer, rows, enough, positio
 use Rattle.judge.specs.Querying.{resultAt}
 use Rattle.judge.specs.internal.Deciding.{DecideRequires, Decided}
 use Rattle.judge.specs.internal.Packed.{verdictIn, visitsIn, Known, OneVisitMore}
-use Rattle.judge.specs.internal.Index.{Prepared}
+use Rattle.judge.specs.internal.Index.{Prepared, NodeAt, nodesAt, marksAt}
 use Rattle.rows.proofs.systems.Systems.{Solvable}
 use Rattle.judge.proofs.cells.BindersAbove.{above-below, below-above, above-counted, below-tested, tested-below}
 use Rattle.judge.proofs.cells.ValidCells.{Marked, Valid}
@@ -73,6 +73,16 @@ xAt s n = nodeX (ruleBody s) n
 
 abbrev pub yAt : List ℕ → ℕ → ℕ
 yAt s n = nodeY (ruleBody s) n
+
+-- a node of an accepted sheet, and the numbers of nodes and marks, as the prepared index has them
+module _ {s index : List ℕ} {st : ℕ} (accepted : sheetCheck s ≡ Passed) (p : Prepared s index st) where
+  pub prepared-node : {n : ℕ} → n < nodeCount (ruleBody s) → NodeAt s index n
+  prepared-node h = record { accepted = accepted; offset-is = p .offset-is; node-below = h }
+
+  pub prepared-small : (getD index nodesAt 0 < 256) × (getD index marksAt 0 < 256)
+  prepared-small =
+      let k = bodies-kept s accepted .rule-kept in
+      (omega (arith, p .nodes-are, k .few-nodes), omega (arith, p .marks-are, k .few-binders))
 
 -- the walk along a row, each cell decided with the table so far
 abbrev pub walkAlong : List ℕ → Row Cell → List ℕ → Result

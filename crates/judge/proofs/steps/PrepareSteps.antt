@@ -18,9 +18,9 @@ use Rattle.sheet.specs.Reading.{sheetCheck}
 use Rattle.sheet.specs.declared.Check.the-variants.{Passed}
 use Rattle.sheet.proofs.acceptance.Parts.{plan-kept, rule-kept, few-states, slice-small}
 use Rattle.judge.specs.Cells.{marks}
-use Rattle.judge.specs.internal.Index.{Prepared, bindersAt}
+use Rattle.judge.specs.internal.Index.{PreparedState, Prepared, bindersAt}
 use Rattle.graph.specs.Search.{foundNone, indexLeft, explored}
-use Rattle.graph.specs.Explored.{SameBefore, Explored, ExploreRequires}
+use Rattle.graph.specs.Explored.{SameBefore, Indexed, Explored, ExploreRequires}
 use Rattle.graph.proofs.search.SearchRight.{explore-right}
 use Rattle.judge.specs.internal.Preparing.{Headed, BindersAsked, Binders, Masks}
 
@@ -102,6 +102,18 @@ searched s {p} {index} {index′} {state} {r} plan e bytes below sized found = e
     given : ExploreRequires p index state
     given = subst (λ (x : List ℕ). ExploreRequires x index state) (sym plan) here
 
+-- what the search says of a state, with masks in place of ones
+pub prepared-state : (s : List ℕ) → sheetCheck s ≡ Passed → {u : ℕ} {searched-index masked : List ℕ} → Indexed (planBody s) searched-index u
+    → Masks (planBody s) (actionsBody s) searched-index masked → PreparedState s masked u
+prepared-state s e {u} k m =
+    let small : u < 128 = omega (arith, k .state-below, few-states s e) in
+    record {
+      begins = m .same (firstsAt + u) (omega arith) ∙ k .begins;
+      ends = m .same (firstsAt + (u + 1)) (omega arith) ∙ k .ends;
+      masks-are = λ i a b.
+          m .filled (label (planBody s) i) (plan-kept s e .label-below i (is-outgoing (planBody s) (plan-kept s e) u i a b .0)) (k .noted i a b);
+    }
+
 module _ (s : List ℕ) (e : sheetCheck s ≡ Passed) (state : ℕ) where
   steps : {first second third fourth : List ℕ} → Headed s first → Binders (ruleBody s) first second → Explored (planBody s) second third state true → Masks (planBody s) (actionsBody s) third fourth → Prepared s fourth state
   steps {first} {second} {third} {fourth} h b x m =
@@ -113,14 +125,7 @@ module _ (s : List ℕ) (e : sheetCheck s ≡ Passed) (state : ℕ) where
         binders-are = λ k l.
             let six : k < 6 = omega (arith, rule-kept s e .few-binders) in
             m .same (bindersAt + k) (omega arith) ∙ x .same refl (bindersAt + k) (omega arith) ∙ b .filled k l;
-        states-are = λ u r.
-            let k = x .reached refl u r in
-            let small : u < 128 = omega (arith, k .state-below, few-states s e) in
-            record {
-              begins = m .same (firstsAt + u) (omega arith) ∙ k .begins;
-              ends = m .same (firstsAt + (u + 1)) (omega arith) ∙ k .ends;
-              masks-are = λ i a b. m .filled (label (planBody s) i) (plan-kept s e .label-below i (is-outgoing (planBody s) (plan-kept s e) u i a b .0)) (k .noted i a b);
-            };
+        states-are = λ u r. prepared-state s e (x .reached refl u r) m;
       }
 
   pub prepared : {p a r first second third fourth : List ℕ} → p ≡ planBody s → a ≡ actionsBody s → r ≡ ruleBody s → Headed s first → Binders r first second → Explored p second third state true → Masks p a third fourth → Prepared s fourth state

@@ -1,7 +1,7 @@
 -- What the code of a query shows: each answer is the one that the checks give.
 use Prim.Native.Nat.{ℕ, _+_, _<_, _≤_}
 use mathlib.Core.Path.{_≡_, refl, sym, ap, ap₂, _∙_}
-use mathlib.Core.Bool.{Bool, true, false, true≢false}
+use mathlib.Core.Bool.{Bool, true, false}
 use mathlib.Core.List.{List, _++_}
 use mathlib.Core.Logic.{_≢_}
 use native.Mathlib.Omega.{arith}
@@ -32,6 +32,7 @@ use Rattle.judge.specs.declared.Scanned.{Scanned}
 use Rattle.judge.specs.declared.Scanned.the-variants.{ByteOver, Filled}
 use Rattle.rows.proofs.tables.Counting.{count-le}
 use Rattle.rows.proofs.lists.Lists.{query-length}
+use Rattle.judge.proofs.steps.ScanSteps.{over-apart, filled-same}
 use Rattle.judge.proofs.steps.DecideSteps.{size-small}
 use Rattle.judge.proofs.cells.CountLayout.{cells-length, filled-cells, bytes-cells}
 
@@ -64,21 +65,6 @@ module _ (s : List ℕ) (state : ℕ) (t : List ℕ) where
       pub answers-loop : loopFree (planBody s) state ≡ false → Answers (Refused Loop) t
       unfolding queryCheck
       answers-loop f = by-check Loop (rw (e, lt-ltb state (stateCount (planBody s)) h, f))
-
--- the cases of a pass apart
-abbrev isOver : Scanned → Bool
-isOver ByteOver = true
-isOver (Filled n) = false
-
-abbrev filledIn : Scanned → ℕ
-filledIn ByteOver = 0
-filledIn (Filled n) = n
-
-over-apart : {n : ℕ} → ByteOver ≡ Filled n → ⊥
-over-apart p = true≢false (ap isOver p)
-
-filled-same : {n m : ℕ} → Filled n ≡ Filled m → n ≡ m
-filled-same p = ap filledIn p
 
 -- with all prepared
 module _ {s index : List ℕ} {state : ℕ} (q : QueryRequires s index state) (t : List ℕ) where

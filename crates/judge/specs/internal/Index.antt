@@ -1,4 +1,4 @@
--- The index prepared for a query: its layout, and what it holds. The first places are set here, those from
+-- The index prepared for a query or an audit: its layout, and what it holds. The first places are set here, those from
 -- firstsAt on by the search (specs/Index.antt of the crate graph).
 use Prim.Native.Nat.{ℕ, _+_, _<_, _≤_}
 use mathlib.Core.Path.{_≡_}
@@ -33,6 +33,10 @@ marksAt = 2
 -- from here on, the nodes of the B binders, in the order of the variables that they bind
 abbrev pub bindersAt : ℕ
 bindersAt = 3
+
+-- for an audit, from here on: where the subtrees of the B binders end
+abbrev pub endsAt : ℕ
+endsAt = 9
 
 -- what the index says of a state: where its transitions begin and end, and which formulas each of their actions meets
 pub record PreparedState (s index : List ℕ) (u : ℕ) : Type 0 where

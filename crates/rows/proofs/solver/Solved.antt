@@ -11,7 +11,7 @@ use borrow.Author.Tests.{eqb-true, eqb-false, eq-eqb, ltb-true, ltb-false}
 use Rattle.rows.specs.Rows.{Row, joined, looked}
 use Rattle.rows.specs.Tables.{byteAt, empty, known, byteOf, changed, among, fills, count, query, Result, out, table}
 use Rattle.rows.proofs.systems.Fuel.{each-map, value-row}
-use Rattle.rows.proofs.systems.Changed.{changed-empty, changed-filled, joined-constant}
+use Rattle.rows.proofs.systems.Changed.{byte-small, changed-empty, changed-filled, joined-constant}
 use Rattle.rows.proofs.tables.Among.{false-if, among-head, among-none}
 use Rattle.rows.proofs.tables.Counting.{oneIf, count-none, count-one, count-sum}
 use Rattle.rows.proofs.systems.Needs.{changed-solvable, solution, needed, need-unfold, entries-apart}
@@ -115,10 +115,6 @@ module _ {C : Type 0} {position : C → ℕ} {rows : C → Row C} {size : ℕ} {
   fill-right t l fits w =
       record { extends = fill-extends s t l fits w; long = fill-length s t l; small = λ i h. small i h (fills position t l i) (ltb i size) refl refl; above = λ i h. fill-above s t l i h }
     where
-      byte-small : (b : Bool) → byteOf b ≤ 2
-      byte-small true = omega arith
-      byte-small false = omega arith
-
       small : (i : ℕ) → byteAt t i ≤ 2 → (a b : Bool) → fills position t l i ≡ a → ltb i size ≡ b → byteAt (fill s t l) i ≤ 2
       small i h true true p q = rw (fill-new s t l fits i (ltb-true i size q) p) (byte-small (solution s t (cellAt i)))
       small i h true false p q = rw (fill-above s t l i (ltb-false i size q)) h

@@ -16,7 +16,7 @@ use Rattle.rows.specs.internal.Solver.{walk, after}
 use Rattle.rows.proofs.systems.Systems.{Each, Solvable}
 use Rattle.rows.proofs.solver.Solver.{walk-decided, walk-on}
 
-beq-true : (a b : Bool) → Bool·beq a b ≡ true → a ≡ b
+pub beq-true : (a b : Bool) → Bool·beq a b ≡ true → a ≡ b
 beq-true true true e = refl
 beq-true true false e = absurd (true≢false (sym e))
 beq-true false true e = absurd (true≢false (sym e))

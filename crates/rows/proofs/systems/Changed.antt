@@ -1,8 +1,9 @@
 -- The rows as a table changes them: an empty cell keeps its row, a filled cell has a constant, and ranks still fall.
 use mathlib.Core.Bool.{Bool, true, false}
 use mathlib.Core.List.{List}
-use mathlib.Core.Path.{_≡_, refl}
-use Prim.Native.Nat.{ℕ, _<_}
+use mathlib.Core.Path.{_≡_, refl, ap, _∙_}
+use Prim.Native.Nat.{ℕ, _≤_, _<_}
+use native.Mathlib.Omega.{arith}
 use Rattle.rows.specs.Rows.{Row, joined}
 use Rattle.rows.specs.Tables.{byteAt, empty, filled, known, byteOf, constant, changed}
 use Rattle.rows.proofs.systems.Systems.{Each, Falling}
@@ -18,6 +19,10 @@ empty-byte false = refl
 pub filled-byte : (b : Bool) → filled (byteOf b) ≡ true
 filled-byte true = refl
 filled-byte false = refl
+
+pub byte-small : (b : Bool) → byteOf b ≤ 2
+byte-small true = omega arith
+byte-small false = omega arith
 
 -- a constant row has its constant for value, whatever the cells' values
 pub joined-constant : {C : Type 0} (b : Bool) (v : C → Bool) → joined (constant {C = C} b .connective) v (constant {C = C} b .entries) ≡ b
@@ -37,6 +42,9 @@ module _ {C : Type 0} (position : C → ℕ) (rows : C → Row C) where
   pub changed-filled : (t : List ℕ) (c : C) → empty (byteAt t (position c)) ≡ false → changed position rows t c ≡ constant (known (byteAt t (position c)))
   unfolding changed
   changed-filled t c e = rw (e, changed)
+
+  pub changed-byte : (t : List ℕ) (c : C) (b : Bool) → byteAt t (position c) ≡ byteOf b → changed position rows t c ≡ constant b
+  changed-byte t c b e = changed-filled t c (ap empty e ∙ empty-byte b) ∙ ap constant (ap known e ∙ known-byte b)
 
   -- the byte of the cell alone counts
   pub changed-same : (t u : List ℕ) (c : C) → byteAt u (position c) ≡ byteAt t (position c) → changed position rows u c ≡ changed position rows t c

@@ -1,6 +1,6 @@
 -- The computed need has exactly the cells that are needed.
 use mathlib.Core.Bool.{Bool, true, false, true≢false}
-use mathlib.Core.List.{List, [], _∷_, _++_, List·Memᴰ, List·Memᴰ·head, List·Memᴰ·tail, List·Memᴰ·not-nil, List·Memᴰ·cases-cons}
+use mathlib.Core.List.{List, [], _∷_, List·Memᴰ, List·Memᴰ·head, List·Memᴰ·tail, List·Memᴰ·not-nil, List·Memᴰ·cases-cons}
 use mathlib.Core.Logic.{_⊎_, inl, inr}
 use mathlib.Core.Path.{_≡_, refl, sym, subst}
 use Prim.Native.Nat.{ℕ, zero, suc, _<_}
@@ -37,6 +37,12 @@ module _ {C : Type 0} (k : Connective) (v : C → Bool) where
         go b q (inl m) rest = (x, now, m)
         go true q (inr m) rest = absurd (List·Memᴰ·not-nil m)
         go false q (inr m) rest = let r = rest m in (r .0, later q (r .1), r .2)
+
+-- an entry looked at in the row of a needed cell is needed
+pub needed-on : {C : Type 0} (rows : C → Row C) (v : C → Bool) {c d e : C} → Needed rows v c d → LookedAt (rows d .connective) v e (rows d .entries)
+    → Needed rows v c e
+needed-on rows v itself h = entry h itself
+needed-on rows v (entry g n) h = entry g (needed-on rows v n h)
 
 module _ {C : Type 0} (rows : C → Row C) {Valid : C → Type 0} {rank : C → ℕ} (fall : Falling rows Valid rank) (F : ℕ) (fuelled : (c : C) → Valid c → rank c < F) where
   abbrev Lower : C → C → Type 0

@@ -6,10 +6,10 @@ use mathlib.Core.Path.{_≡_, refl, sym, ap, ap₂, subst, _∙_}
 use Prim.Native.Nat.{ℕ, zero, suc, _<_}
 use native.Mathlib.Omega.{arith}
 use Rattle.rows.specs.Rows.{Connective, Row, decides, joined, looked}
-use Rattle.rows.specs.Tables.{byteAt, empty, known, byteOf, constant, changed, among}
+use Rattle.rows.specs.Tables.{byteAt, empty, byteOf, constant, changed, among}
 use Rattle.rows.proofs.systems.Systems.{Each, Solvable}
 use Rattle.rows.proofs.systems.Fuel.{each-map, value-row, value-unique}
-use Rattle.rows.proofs.systems.Changed.{known-byte, empty-byte, joined-constant, changed-same, changed-filled}
+use Rattle.rows.proofs.systems.Changed.{empty-byte, joined-constant, changed-same, changed-byte}
 use Rattle.rows.proofs.tables.Among.{false-if, among-append, among-none, among-tail}
 use Rattle.rows.proofs.systems.Needs.{changed-solvable, need-unfold, solution, needed}
 
@@ -45,10 +45,6 @@ module _ {C : Type 0} {position : C → ℕ} {rows : C → Row C} {size : ℕ} {
     pub closed : (c : C) → Valid c → empty (byteAt t (position c)) ≡ true → empty (byteAt u (position c)) ≡ false → (i : ℕ) → among position (needed s t c) i ≡ true → empty (byteAt u i) ≡ false
 
   module _ (t u : List ℕ) (x : Extends t u) where
-    -- where u fills a cell anew its row is the constant of its solution
-    newly : (c : C) → byteAt u (position c) ≡ byteOf (solution s t c) → changed position rows u c ≡ constant (solution s t c)
-    newly c e = changed-filled position rows u c (ap empty e ∙ empty-byte (solution s t c)) ∙ ap constant (ap known e ∙ known-byte (solution s t c))
-
     pub extension-value : (c : C) → Valid c → solution s u c ≡ solution s t c
     extension-value c vc = sym (value-unique (changed position rows u) (changed-solvable s u .falling) (solution s t) (λ d vd. go d vd (x .kept d vd)) F c vc (s .fuelled c vc))
       where
@@ -57,7 +53,7 @@ module _ {C : Type 0} {position : C → ℕ} {rows : C → Row C} {size : ℕ} {
 
         go : (d : C) → Valid d → Kept t u d → Obeys d (changed position rows u d)
         go d vd (inl e) = subst (Obeys d) (sym (changed-same position rows t u d e)) (value-row (changed position rows t) (changed-solvable s t .falling) F d vd (s .fuelled d vd))
-        go d vd (inr e) = subst (Obeys d) (sym (newly d (e .1))) (sym (joined-constant (solution s t d) (solution s t)))
+        go d vd (inr e) = subst (Obeys d) (sym (changed-byte position rows u d (solution s t d) (e .1))) (sym (joined-constant (solution s t d) (solution s t)))
 
     -- what u leaves empty is needed by u exactly where it is needed by t
     pub extension-need : (i : ℕ) → empty (byteAt u i) ≡ true → (c : C) → Valid c → among position (needed s u c) i ≡ among position (needed s t c) i
@@ -74,7 +70,7 @@ module _ {C : Type 0} {position : C → ℕ} {rows : C → Row C} {size : ℕ} {
             subst (Agree c) (sym (changed-same position rows t u c e)) (rw (need-unfold (changed-solvable s t) c vc)
             (among-tail position c _ _ i (looked-among position i _ _ _ _ _ (changed position rows t c .entries) ih)))
         one c vc ih (inr e) =
-            subst (Agree c) (sym (newly c (e .1))) (rw (looked-constant (solution s t c) (solution s u) (needed s u)) (among-none position (c ∷ []) i (outside, tt) ∙ sym (false-if _ unneeded)))
+            subst (Agree c) (sym (changed-byte position rows u c (solution s t c) (e .1))) (rw (looked-constant (solution s t c) (solution s u) (needed s u)) (among-none position (c ∷ []) i (outside, tt) ∙ sym (false-if _ unneeded)))
           where
             full : empty (byteAt u (position c)) ≡ false
             full = ap empty (e .1) ∙ empty-byte (solution s t c)

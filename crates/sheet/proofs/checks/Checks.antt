@@ -5,13 +5,13 @@ use mathlib.Core.Bool.{Bool, true, false, _&&_, _||_, false≢true}
 use mathlib.Core.Logic.{_↔_, _⊎_, inl, inr}
 use native.Mathlib.Omega.{arith}
 use lib.Dec.{eqb}
-use borrow.Author.Tests.{eqb-true, eq-eqb}
+use borrow.Author.Tests.{eqb-true, eqb-false, eq-eqb}
 use Rattle.sheet.specs.Bytes.{lowest}
 use Rattle.sheet.specs.Refusals.{require, andThen}
 use Rattle.sheet.specs.declared.Refusal.{Refusal}
 use Rattle.sheet.specs.declared.Check.{Check}
 use Rattle.sheet.specs.declared.Check.the-variants.{Passed, Failed}
-use Rattle.sheet.proofs.checks.Lowest.{lowest-below, lowest-none}
+use Rattle.sheet.proofs.checks.Lowest.{lowest-bound, lowest-below, lowest-found, lowest-none}
 
 pub and-parts : (a b : Bool) → (a && b) ≡ true → (a ≡ true) × (b ≡ true)
 and-parts true b e = (refl, e)
@@ -66,6 +66,13 @@ none-found test n = (
   λ e k h. lowest-below test n k (let q : lowest test n ≡ n = eqb-true _ _ e in omega arith),
   λ none. eq-eqb (lowest test n) n (lowest-none test n none),
 )
+
+-- a search that does not end at n found a number below it
+pub one-found : (test : ℕ → Bool) (n : ℕ) → eqb (lowest test n) n ≡ false → (i : ℕ) × (i < n) × (test i ≡ true)
+one-found test n h =
+    let apart : lowest test n ≡ n → ⊥ = eqb-false (lowest test n) n h in
+    let l : lowest test n < n = omega (arith, lowest-bound test n) in
+    (lowest test n, l, lowest-found test n l)
 
 -- an answer that is right is reported right
 pub with-report : {A R : Type 0} (report : A → R) {x y : A} → x ≡ y → (x ≡ y) × (report x ≡ report y)

@@ -16,7 +16,7 @@ use Rattle.judge.specs.Cells.{Cell, cell, opened, outer, cellBytes}
 use Rattle.judge.specs.internal.Deciding.{DecideRequires, FollowRequires}
 use Rattle.judge.specs.internal.Packed.{verdictIn}
 use Rattle.judge.proofs.steps.DecideSteps.{rankAt, kindAt, xAt}
-use Rattle.judge.proofs.steps.FollowWalk.{walkRank}
+use Rattle.judge.proofs.steps.Turns.{walkRank}
 use Rattle.judge.proofs.steps.DecideCalls as calls
 use Rattle.judge.proofs.steps.DecideAnswers as answers
 use Rattle.judge.proofs.deciding.+decide+follow.Proof.Measures.{decide-at, decide-below, follow-below}

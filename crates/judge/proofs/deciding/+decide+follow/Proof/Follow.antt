@@ -4,17 +4,16 @@ use native.Mathlib.Omega.{arith}
 use borrow.Author.Needs.{needs}
 use mathlib.Core.Bool.{true, Bool·beq}
 use mathlib.Core.List.{List}
-use mathlib.Core.Logic.{inl}
-use mathlib.Core.Path.{_≡_, refl, sym, ap, _∙_}
+use mathlib.Core.Path.{_≡_, sym, ap, _∙_}
 use Prim.Native.Nat.{ℕ, _<_, _-_}
 use denote.Ref.{now}
 use lib.Dec.{eqb}
 use Rattle.judge.specs.internal.Deciding.{FollowRequires}
-use Rattle.judge.specs.internal.Index.{NodeAt, PreparedState, TransitionAt}
+use Rattle.judge.specs.internal.Index.{TransitionAt}
 use Rattle.judge.specs.internal.Packed.{verdictIn}
 use Rattle.judge.proofs.steps.DecideSteps.{kindAt, yAt}
-use Rattle.sheet.proofs.acceptance.Parts.{bodies-kept}
-use Rattle.judge.proofs.steps.FollowWalk.{WalkedTo, meetsAt, walk-start, walk-finish, sum-small, transition-at, met, call-child, turn-decided, turn-on, turn-past}
+use Rattle.judge.proofs.steps.FollowWalk.{WalkedTo, walk-start, walk-finish, sum-small, call-child, turn-decided, turn-on, turn-past}
+use Rattle.judge.proofs.steps.Turns.{meetsAt, modal-node-at, state-small, state-at, transition-at, met}
 use Rattle.judge.proofs.deciding.+decide+follow.Proof.Measures.{decide-below, follow-at}
 use Rattle.judge.proofs.deciding.decide.Reads as decide
 use Rattle.judge.proofs.deciding.follow.Reads as follow
@@ -88,15 +87,6 @@ module _ (t : ℕ) where
     asked : FollowRequires sheet index table node state
     asked = c .pre .1 .0
 
-    node-at : NodeAt sheet index node
-    node-at = record { accepted = asked .accepted; offset-is = asked .prepared .offset-is; node-below = asked .node-below }
-
-    state-small : state < 128
-    state-small = omega (arith, asked .state-below, bodies-kept sheet (asked .accepted) .plan-kept .few-states)
-
-    state-at : PreparedState sheet index state
-    state-at = asked .prepared .states-are state (inl refl)
-
   -- ---- the loop, a turn of it, and whether its transition's action meets the formula
 
   module _ (c : lts.At-loop (claims t) (follow-at t) follow.Post Inv-loop μ-loop) where
@@ -117,7 +107,7 @@ module _ (t : ℕ) where
     loop = c .before
 
     transition : TransitionAt (sheet (start loop)) (loop .loop .i)
-    transition = transition-at (asked (start loop)) (walked loop) (c .loop-test .taken)
+    transition = transition-at (asked (start loop)) (walked loop .turn) (c .loop-test .taken)
 
   module _ (c : lts.After-has-bit (claims t) (follow-at t) follow.Post Inv-loop μ-loop) where
     abbrev turn : lts.In-loop (claims t) (follow-at t) follow.Post Inv-loop μ-loop
@@ -128,7 +118,7 @@ module _ (t : ℕ) where
 
     meeting : c .has-bit .result ≡ meetsAt (sheet entry) (node entry) (loop turn .loop .i)
     meeting =
-        met (asked entry) (walked (loop turn)) (turn .loop-test .taken) (c .has-bit .ensures) (c .before .mask-of .ensures)
+        met (asked entry) (walked (loop turn) .turn) (turn .loop-test .taken) (c .has-bit .ensures) (c .before .mask-of .ensures)
         (c .before .before .label-of .ensures) (loop turn .before .before .before .before .x-of .ensures)
 
   -- ---- the transition's cell is decided
@@ -157,21 +147,21 @@ module _ (t : ℕ) where
   -- ---- before the loop
 
   x-of-requires : lts.Need-x-of-requires (claims t) (follow-at t) follow.Post Inv-loop μ-loop
-  x-of-requires c κs = node-at (c .before .before)
+  x-of-requires c κs = modal-node-at (asked (c .before .before))
 
   y-of-requires : lts.Need-y-of-requires (claims t) (follow-at t) follow.Post Inv-loop μ-loop
-  y-of-requires c κs = node-at (c .before .before .before)
+  y-of-requires c κs = modal-node-at (asked (c .before .before .before))
 
   transitions-end-requires : lts.Need-transitions-end-requires (claims t) (follow-at t) follow.Post Inv-loop μ-loop
-  transitions-end-requires c κs = state-small (c .before .before .before .before)
+  transitions-end-requires c κs = state-small (asked (c .before .before .before .before))
 
   transitions-begin-requires : lts.Need-transitions-begin-requires (claims t) (follow-at t) follow.Post Inv-loop μ-loop
-  transitions-begin-requires c κs = state-small (c .before .before .before .before .before)
+  transitions-begin-requires c κs = state-small (asked (c .before .before .before .before .before))
 
   loop-holds : lts.Need-loop-holds (claims t) (follow-at t) follow.Post Inv-loop μ-loop
   loop-holds c =
       let s = c .before .before .before .before .before .before in
-      walk-start (asked s) (c .transitions-begin .ensures ∙ state-at s .begins) (c .before .transitions-end .ensures ∙ state-at s .ends)
+      walk-start (asked s) (c .transitions-begin .ensures ∙ state-at (asked s) .begins) (c .before .transitions-end .ensures ∙ state-at (asked s) .ends)
 
   -- ---- a transition's action
 
@@ -222,7 +212,7 @@ module _ (t : ℕ) where
   add-i : lts.Need-add-i (claims t) (follow-at t) follow.Post Inv-loop μ-loop
   add-i c =
       let w = walked (loop (turn (tested (c .before .before .before .before .before)))) in
-      omega (arith, w .few, w .within)
+      omega (arith, w .turn .few, w .turn .within)
 
   loop-less : lts.Need-loop-less (claims t) (follow-at t) follow.Post Inv-loop μ-loop
   loop-less c = omega (arith, turn (tested (c .before .before .before .before .before)) .loop-test .taken)
@@ -240,7 +230,7 @@ module _ (t : ℕ) where
   add-i-2 : lts.Need-add-i-2 (claims t) (follow-at t) follow.Post Inv-loop μ-loop
   add-i-2 c =
       let w = walked (c .before .before .before .before .before) in
-      omega (arith, w .few, w .within)
+      omega (arith, w .turn .few, w .turn .within)
 
   loop-less-2 : lts.Need-loop-less-2 (claims t) (follow-at t) follow.Post Inv-loop μ-loop
   loop-less-2 c = omega (arith, c .before .before .before .before .loop-test .taken)

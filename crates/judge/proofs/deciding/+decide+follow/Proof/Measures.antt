@@ -5,7 +5,7 @@ use borrow.Fn.Kinds.{In}
 use borrow.Fn.PlainCycle.{Measures, is, falls, and}
 use Rattle.judge.specs.Cells.{cell}
 use Rattle.judge.proofs.steps.DecideSteps.{rankAt}
-use Rattle.judge.proofs.steps.FollowWalk.{walkRank}
+use Rattle.judge.proofs.steps.Turns.{walkRank}
 use Rattle.judge.proofs.deciding.decide.Reads as decide
 use Rattle.judge.proofs.deciding.decide.Kinds as decide-kinds
 use Rattle.judge.proofs.deciding.follow.Reads as follow

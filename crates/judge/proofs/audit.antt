@@ -1,0 +1,4 @@
+pub mod FilledCells
+pub mod AuditNumbers
+pub mod AuditSolved
+pub mod AuditKept

@@ -1,0 +1,5 @@
+pub mod Follows
+pub mod Sound
+pub mod Complete
+pub mod SolvedTables
+pub mod Enough
