@@ -8,8 +8,8 @@ NEW := target/branched.sheet
 STORED := target/stored
 DIFFERENTIAL := cd tests/differential && cargo run --release --offline --quiet --
 
-.PHONY: gate check examples reports sheet branch shortest audit trials store runs lines tables \
-	long texts deep count differential memory benchmark help
+.PHONY: gate check examples reports sheet branch shortest audit allowance trials store runs lines \
+	tables long texts deep count differential memory benchmark help
 
 gate: ## prove all from nothing, try the must-fail edits, run the programs (rt ci)
 	.ci/run
@@ -24,6 +24,7 @@ examples: ## judge the sheets of examples/ and others, make some anew, and compa
 	python3 tests/sheets.py branches examples $(DRIVER)
 	python3 tests/sheets.py recordings examples $(DRIVER)
 	python3 tests/sheets.py tables examples $(DRIVER)
+	python3 tests/sheets.py benches examples $(DRIVER)
 
 reports: ## print reports on about a thousand inputs, and compare with what is right
 	rt check counter_report
@@ -44,6 +45,10 @@ shortest: ## say on which beginning of two recordings SHEET's rule fails first, 
 audit: ## say whether the filled table TABLE is right for SHEET, and if not, why
 	rt check trials
 	python3 tests/audit_table.py '$(SHEET)' '$(TABLE)'
+
+allowance: ## deal VISITS=40 to benches on SHEET, STATES='0 2 1' (TABLES=.., LEFT=..: files)
+	rt check trials
+	python3 tests/allowance_benches.py '$(SHEET)' '$(STATES)' '$(VISITS)' '$(TABLES)' '$(LEFT)'
 
 trials: ## say whether the stored trials are what tests/cases.py makes
 	mkdir -p $(STORED)
@@ -72,7 +77,7 @@ texts: ## turn .aut texts of a million bytes into plans on a small stack
 	rt check aut
 	python3 tests/long_texts.py
 
-deep: ## search runs of 127 actions for the deepest rules on a stack of 6 MiB
+deep: ## search runs of 127 actions and grant a bench for the deepest rules on a stack of 6 MiB
 	rt check trials
 	python3 tests/deep_runs.py
 

@@ -1,12 +1,15 @@
 #!/usr/bin/env python3
-"""Runs of 127 actions, searched for the deepest rules on a small stack.
+"""Runs of 127 actions, searched for the deepest rules on a small stack, and a bench that queries
+the deepest sheet there.
 
 Sends request 14 (docs/TRIALS.md) to the trial driver, with a stack of 6 MiB, which leaves a quarter
 of the usual 8 MiB, and with rules like that of the sheet on which a query nests deepest: one that
-holds on all 256 beginnings, and some that fail on the last alone. Each has to be answered as it
-should be. The least stack on which it is, five times in a row, is printed too, beside that of a
-query of the deepest sheet; the system does not place a stack alike each time, so it varies by some
-KiB.
+holds on all 256 beginnings, and some that fail on the last alone. Then request 16 with that sheet
+and one bench, whose table is the largest there is, with all the visits it needs and with one too
+few; of several benches a copy is made of one table at a time, so that no more is needed. Each has
+to be answered as it should be. The least stack on which it is, five times in a row, is printed too,
+beside that of a query of the deepest sheet; the system does not place a stack alike each time, so
+it varies by some KiB.
 
 Run `rt check trials` first, or name another driver by `--driver PROGRAM`.
 """
@@ -16,6 +19,8 @@ import sys
 import time
 
 from driver import chosen
+from inputs.allowance_limits import DEEPEST
+from inputs.allowance_parts import dealt
 from inputs.parts import deepest
 from inputs.recording_parts import DEEP, DEEP_ONLY, DEEP_UNTIL, found, none, sheet
 from oracle.protocol import answers, list_request
@@ -32,6 +37,9 @@ def cases():
                             ('it fails at an action 3', DEEP_ONLY, zeros[1:] + b'\3')):
         yield what + ', the first', *found(sheet(tree), bad, zeros, 'first', 127)
         yield what + ', the second', *found(sheet(tree), zeros, bad, 'second', 127)
+    for what, visits in (('a bench that gets all it needs', DEEPEST),
+                         ('a bench that is short by one visit', DEEPEST - 1)):
+        yield what, *dealt(deepest(), [0], visits, [bytes(57348)], [visits])
     query = list_request(deepest(), 57348, 0, [0])
     yield 'a query of the deepest sheet', query, answers(query).decode().replace('\n', '|')
 

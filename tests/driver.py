@@ -49,7 +49,7 @@ def run(command, counts, words, manual):
 def answered(driver, request, form):
     """what stands behind the number and the place of an answer, in a given form"""
     done = subprocess.run([driver], input=request, capture_output=True)
-    found = re.fullmatch(rb'\w+ (\d+) (\d+) ' + form, done.stdout)
+    found = re.fullmatch(rb'\w+ (\d+) (\d+)[ \n]' + form, done.stdout)
     if not found:
         sys.exit('%s does not answer' % driver)
     number, place, *values = found.groups()

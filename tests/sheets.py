@@ -1,10 +1,11 @@
 #!/usr/bin/env python3
-"""The example sheets, the text of one's plan, the recordings for another, the example report and
-the example tables, with pages that explain them.
+"""The example sheets, the text of one's plan, the recordings for another, the example report, the
+example tables and the example benches, with pages that explain them.
 
-    sheets.py write DIR              writes DIR/NAME.sheet, DIR/NAME.report or DIR/NAME-WHICH.table,
-                                     and DIR/NAME.txt for each, DIR/NAME.aut for a plan that has a
-                                     text, and DIR/NAME-WHICH.run for each recording
+    sheets.py write DIR              writes DIR/NAME.sheet, DIR/NAME.report, DIR/NAME-WHICH.table or
+                                     DIR/NAME-WHICH.tables, and DIR/NAME.txt for each, DIR/NAME.aut
+                                     for a plan that has a text, and DIR/NAME-WHICH.run for each
+                                     recording
     sheets.py check DIR PROGRAM      runs PROGRAM on each sheet of DIR and compares with the last
                                      line of its page; then on sheets at the limits and on refused
                                      ones, and compares with what docs/FORMAT.md says
@@ -20,6 +21,9 @@ the example tables, with pages that explain them.
     sheets.py tables DIR DRIVER      audits the tables of DIR, by tests/audit_table.py and the trial
                                      driver DRIVER, and compares with the page; then others, and
                                      refused ones
+    sheets.py benches DIR DRIVER     grants what the benches of DIR get, by
+                                     tests/allowance_benches.py and the trial driver DRIVER, and
+                                     compares with the page; then others, and refused ones
     sheets.py deepest FILE           the sheet on which a query nests deepest
 """
 import re
@@ -29,20 +33,23 @@ import tempfile
 import textwrap
 from pathlib import Path
 
+import allowance_benches
 import audit_table
 import shortest_run
 from inputs.audit_parts import cells_left, solved_cells, turned
 from inputs.aut_parts import text
 from inputs.counts import AT_0_AND_2
 from inputs.examples import (
-    COUNTER, CUT, KEY, KEY_BRANCH, LOOP_AHEAD, SERVICE, SPARE, SUPPLIER, WORN_KEPT)
+    BENCHES, COUNTER, CUT, KEY, KEY_BRANCH, LOOP_AHEAD, SERVICE, SPARE, SUPPLIER, WORN_KEPT)
 from inputs.parts import (
     GREATEST_X, K, K8, K_ACTIONS, K_PLAN, K_RULE, LEAST, LEAST_LOOP, LEAST_X, LONG, counted,
     deepest, faults, plan, refusals, rule, set_at, table)
 from native import HERE
+from oracle.allowances import allowance
 from oracle.aut import read_text
 from oracle.branches import branched, propose
 from oracle.program import line_of, lines_of
+from oracle.protocol import yes
 from oracle.recordings import shortest
 from oracle.rows import Sheet
 from oracle.sheet import bodies_at, read_sheet, sheet_of, triples, word
@@ -183,6 +190,43 @@ def tables_page(example):
                     example['sheet name'], table_name(example, which)),
                 'prints', '  ' + audit_table.answer_line(example['sheet'], tab)]
     return '\n'.join([*out, ''])
+
+
+def left_name(example, which):
+    return '%s-%s.tables' % (example['name'], which)
+
+
+def granted(s, states, visits, tables):
+    """what tests/allowance_benches.py says of benches that are not refused, and the tables left"""
+    left = bytearray(tables)
+    benches = [(str(need), str(grant), yes(short), yes(verdict), str(filled))
+               for need, grant, short, verdict, filled in allowance(s, states, visits, left)]
+    return '\n'.join(allowance_benches.bench_lines(states, benches)), bytes(left)
+
+
+def benches_page(example):
+    s, states = example['sheet'], example['states']
+    size = Sheet(s).table_size()
+    tables, before = bytes(size * len(states)), ''
+    out = [*filled(example['title'])]
+    for which, left in example['left'].items():
+        out += ['', 'The %s allowance' % which, '', 'The command',
+                "  python3 tests/allowance_benches.py examples/%s '%s' %d%s" % (
+                    example['sheet name'], ' '.join(map(str, states)), example['visits'], before),
+                'prints', *('  ' + line for line in granted(
+                    s, states, example['visits'], tables)[0].split('\n')),
+                '', *filled(example['of ' + which])]
+        out += ['', 'It leaves %s, %d bytes' % (left_name(example, which), len(left))]
+        for i in range(len(states)):
+            own = left[i * size:(i + 1) * size]
+            same = own == tables[i * size:(i + 1) * size]
+            out += ['  bench %d, from byte %d%s' % (i, i * size, ': as before' if same else '')]
+            out += [] if same else shown(table_rows(example, own))
+        tables, before = left, ' examples/' + left_name(example, which)
+    return '\n'.join([*out, '', *filled(
+        'The bytes of a table are counted from its start; supplier.txt says what they mean. With '
+        "the name of a file as its last word, behind that of the tables or '', the command writes "
+        'there what it leaves.'), ''])
 
 
 def further():
@@ -457,6 +501,80 @@ def tables(folder, driver):
     return min(wrong, 1)
 
 
+def to_grant(folder):
+    """sheets, states, visits, tables or None for cleared ones; what is said of them, and what is
+    left, None where it is refused"""
+    # the commands of the pages, and what they print
+    page = (HERE / 'docs/ALLOWANCE.md').read_text()
+    found = re.findall(r"make allowance SHEET=(\S+) STATES='(.*)' VISITS=(\d+)"
+                       r'(?: TABLES=([\w/.-]+))?\n\n.*prints\n\n((?: +bench .*\n)+)', page)
+    assert found
+    words = Path(folder, BENCHES['name'] + '.txt').read_text()
+    own = re.findall(r"benches.py (\S+) '(.*)' (\d+)(?: (\S+))?\nprints\n((?: +bench .*\n)+)",
+                     words)
+    assert len(own) == len(BENCHES['left'])
+    for sheet, states, visits, tables, lines in (*found, *own):
+        s, given = (HERE / sheet).read_bytes(), [*map(int, states.split())]
+        before = (HERE / tables).read_bytes() if tables else None
+        left = granted(s, given, int(visits), before or bytes(
+            Sheet(s).table_size() * len(given)))[1]
+        yield s, states, visits, before, textwrap.dedent(lines).strip(), left
+    for which, (_, _, _, tables, _) in zip(BENCHES['left'], own):
+        s, states, visits = BENCHES['sheet'], BENCHES['states'], BENCHES['visits']
+        before = (HERE / tables).read_bytes() if tables else bytes(336)
+        after = Path(folder, left_name(BENCHES, which)).read_bytes()
+        yield (s, ','.join(map(str, states)), str(visits), before,
+               granted(s, states, visits, before)[0], after)
+    for s in (K, K8, LEAST_X, sheet_of(*CUT['bodies']), sheet_of(*SPARE['bodies'])):
+        for states, visits in (([0], 0), ([0, 0, 2], 7), ([2, 1] * 4, 25), ([1, 0], 4294967295)):
+            tables = bytes(Sheet(s).table_size() * len(states))
+            for past in (b'', b'\3\0\xff'):
+                lines, left = granted(s, states, visits, tables + past)
+                yield (s, ' '.join(map(str, states)), str(visits), tables + past if past else None,
+                       lines, left)
+    said = allowance_benches.refusal_line
+    yield K, '', '5', None, said(44, 0), None
+    yield K, '0 ' * 9, '5', None, said(44, 0), None
+    yield K, '0 3', '5', None, said(11, 0, 1), None
+    yield LOOP_AHEAD, '6 0', '5', None, said(12, 0, 1), None
+    yield K, '0 1 2', '5', bytes(335), said(20, 0, 2), None
+    yield K, '0 1 2', '5', bytes(111), said(20, 0, 0), None
+    yield K, '0 1', '5', bytes(112) + b'\3' + bytes(111), said(21, 0, 1), None
+    yield K, '0 1', '5', counted(AT_0_AND_2, 1) + bytes(112), said(35, 0, 0), None
+    for number, place, s in faults():
+        yield s, '0 1', '5', None, said(number, place), None
+    yield K, '0 256', '5', None, '256 is no byte', None
+    for word in ('', '-1', '4294967296', '1e3'):
+        yield K, '0', word, None, '%s is no number of visits' % (word or 'nothing'), None
+    yield b'(' * 65536, '0', '5', None, TOO_LONG, None
+    yield K, '0', '5', bytes(65536), TOO_LONG, None
+    yield deepest(), '0 1', '5', None, TOO_LONG, None
+
+
+def benches(folder, driver):
+    wrong = 0
+    command = [sys.executable, str(HERE / 'tests/allowance_benches.py'), '--driver', driver]
+    with tempfile.TemporaryDirectory() as made:
+        for i, (s, states, visits, tables, wanted, left) in enumerate(to_grant(folder)):
+            sheet, given, after = (Path(made, '%d.%s' % (i, which))
+                                   for which in ('sheet', 'tables', 'left'))
+            sheet.write_bytes(s)
+            if tables is not None:
+                given.write_bytes(tables)
+            words = [sheet, states, visits, '' if tables is None else given, after]
+            done = subprocess.run([*command, *map(str, words)], capture_output=True)
+            line = wanted.encode() + b'\n'
+            right = (b'', line, 1, None) if left is None else (line, b'', 0, left)
+            found = (done.stdout, done.stderr, done.returncode,
+                     after.read_bytes() if after.exists() else None)
+            good = found == right and (tables is None or given.read_bytes() == tables)
+            wrong += not good
+            print('benches %d:' % i, wanted.replace('\n', '; ') if good else '%s and not %s' % (
+                found, right))
+    print('all as expected' if wrong == 0 else '%d wrong' % wrong)
+    return min(wrong, 1)
+
+
 def main(args):
     if args[:1] == ['write'] and len(args) == 2:
         for example in (KEY, KEY_BRANCH, CUT, SPARE, SERVICE):
@@ -472,6 +590,9 @@ def main(args):
         for which, tab in SUPPLIER['tables'].items():
             Path(args[1], table_name(SUPPLIER, which)).write_bytes(tab)
         Path(args[1], SUPPLIER['name'] + '.txt').write_text(tables_page(SUPPLIER))
+        for which, left in BENCHES['left'].items():
+            Path(args[1], left_name(BENCHES, which)).write_bytes(left)
+        Path(args[1], BENCHES['name'] + '.txt').write_text(benches_page(BENCHES))
         return 0
     if args[:1] == ['check'] and len(args) == 3:
         return check(*args[1:])
@@ -483,6 +604,8 @@ def main(args):
         return recordings(*args[1:])
     if args[:1] == ['tables'] and len(args) == 3:
         return tables(*args[1:])
+    if args[:1] == ['benches'] and len(args) == 3:
+        return benches(*args[1:])
     if args[:1] == ['deepest'] and len(args) == 2:
         Path(args[1]).write_bytes(deepest())
         return 0

@@ -6,12 +6,12 @@ from oracle.branches import propose
 from oracle.lines import line_body
 from oracle.patterns import translate
 from oracle.protocol import (
-    audit_request, aut_request, commit_request, guard_request, line_request, list_request,
-    pattern_request, propose_request, query_request, read_request, reference_request,
+    allowance_request, audit_request, aut_request, commit_request, guard_request, line_request,
+    list_request, pattern_request, propose_request, query_request, read_request, reference_request,
     report_request, shortest_request, write_request)
 from oracle.recordings import shortest
 from oracle.reports import ROOM
-from oracle.rows import Sheet
+from oracle.rows import Sheet, query
 from oracle.sheet import Refused, accepted, bodies_at, read_sheet, sheet_of, triples
 
 
@@ -428,3 +428,46 @@ def random_audit(rng, most=(3, 8, 16)):
     if rng.random() < 0.05:
         tab = tab[:rng.randrange(len(tab))]
     yield audit_request(damaged(rng, s) if rng.random() < 0.04 else s, tab)
+
+
+def random_bench(rng, sheet, s):
+    """a state and a table: nearly always one from which no loop can be reached, and a table as a
+    list leaves it or just cleared; seldom one that is refused"""
+    free = [state for state in range(sheet.states) if not sheet.loop_reachable(state)]
+    state = rng.choice(free) if free and rng.random() < 0.97 else rng.randrange(sheet.states + 1)
+    cells = bytes(sheet.cells())
+    if rng.random() < 0.6:
+        cells = random_filling(rng, s)
+    if rng.random() < 0.02:
+        cells = random_change(rng, cells)
+    return state, counted(cells, rng.choice((1, -1, 256)) if rng.random() < 0.01 else 0)
+
+
+def needed(s, state, tab):
+    """the visits of a query, 0 where it is refused"""
+    try:
+        return query(s, state, bytearray(tab))[1]
+    except Refused:
+        return 0
+
+
+def random_allowance(rng, most=(3, 8, 16)):
+    """for benches on one sheet; none, some or all of what they need, or more; seldom a wrong number
+    of them, a wrong length of the buffer, or a sheet that is damaged"""
+    s = random_sheet(rng, most)
+    count = rng.choice((1, 2, 2, 3, 3, 4, 5, 6, 7, 8, 8)) if rng.random() < 0.95 else 9
+    try:
+        sheet = Sheet(s)
+        benches = [random_bench(rng, sheet, s) for _ in range(count)]
+    except Refused:
+        benches = [(0, bytes(9))] * count
+    states, tables = bytes(state for state, _ in benches), b''.join(tab for _, tab in benches)
+    needs = sum(needed(s, *bench) for bench in benches)
+    some = rng.randrange(needs + 1)
+    visits = rng.choice((0, 1, count, needs - 1, needs, needs + 1, some, some, some, some,
+                         rng.randrange(1 << 32)))
+    tables += rng.randbytes(rng.choice((0, 0, 0, 1, 5)))
+    if rng.random() < 0.04:
+        tables = tables[:rng.randrange(len(tables) + 1)]
+    yield allowance_request(damaged(rng, s) if rng.random() < 0.03 else s, states, max(0, visits),
+                            tables)

@@ -1,5 +1,6 @@
-"""The example sheets, the example text of a plan, the example recordings, the example report and
-the example tables, with the words that their pages say of them."""
+"""The example sheets, the example text of a plan, the example recordings, the example report, the
+example tables and the example benches, with the words that their pages say of them."""
+from inputs.allowance_parts import K_CELLS
 from inputs.aut_parts import text
 from inputs.parts import F, K, K_ACTIONS, K_PLAN, K_RULE, T, counted, plan, rule, table
 from oracle.branches import tag_of
@@ -170,4 +171,25 @@ SUPPLIER = {
                  'variable for its constant wherever a mark is open. Under mark 2 binder 1 is open '
                  'and binder 0 is not, so the row of node 9, variable 0, is the cell of binder 0, '
                  'which is true at state 1. All other cells follow, from this one or from others.',
+}
+
+BENCHES = {
+    'name': 'benches',
+    'title': 'Three benches on K, the sheet of key.txt. Their controller grants 20 visits at a '
+             'time, and each time the benches go on with the tables that were left.',
+    'sheet': K,
+    'sheet name': 'key.sheet',
+    'states': (0, 2, 1),
+    'visits': 20,
+    # the tables left: those of states that have queried, the others just cleared
+    'left': {which: b''.join(counted(K_CELLS[state] if state in queried else bytes(108))
+                             for state in (0, 2, 1))
+             for which, queried in (('first', (1,)), ('second', (1, 2)), ('third', (0, 1, 2)))},
+    'of first': 'Four rounds give each bench 4 visits, which is all that bench 2 needs. The other '
+                '8 go by turns to benches 0 and 1, and one visit more would do for bench 1. It '
+                'gets nothing for its 8: a bench that is short does not query, and its table '
+                'stays.',
+    'of second': 'Bench 2 needs nothing now. Nine rounds give benches 0 and 1 a visit each, and '
+                 'then bench 1 has what it needs. The last 2 go to bench 0.',
+    'of third': 'Bench 0 alone is short, and 17 of the 20 visits are enough.',
 }

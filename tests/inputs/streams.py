@@ -2,6 +2,9 @@
 import random
 from itertools import product
 
+from inputs.allowance_dealing import every_need
+from inputs.allowance_limits import longest_allowances
+from inputs.allowances import allowances, allowances_to_try
 from inputs.audit_limits import longest_audits
 from inputs.audits import audits, audits_to_try
 from inputs.aut_limits import longest_texts
@@ -13,8 +16,8 @@ from inputs.branch_limits import longest_branches
 from inputs.branch_parts import likely, small
 from inputs.branches import branches, branches_to_try
 from inputs.chance import (
-    random_audit, random_branch, random_conversion, random_judging, random_list, random_reading,
-    random_recordings, random_report, random_translation, random_typing)
+    random_allowance, random_audit, random_branch, random_conversion, random_judging, random_list,
+    random_reading, random_recordings, random_report, random_translation, random_typing)
 from inputs.counts import counts_to_try
 from inputs.judging import judgings
 from inputs.line_limits import longest_lines
@@ -34,9 +37,9 @@ from inputs.rules import children_to_try
 from inputs.to_try import to_try
 from oracle.branches import tag_of
 from oracle.protocol import (
-    answers, audit_request, aut_request, commit_request, guard_request, line_request, list_request,
-    pattern_request, propose_request, query_request, read_request, reference_request,
-    report_request, shortest_request, write_request)
+    allowance_request, answers, audit_request, aut_request, commit_request, guard_request,
+    line_request, list_request, pattern_request, propose_request, query_request, read_request,
+    reference_request, report_request, shortest_request, write_request)
 from oracle.reports import ROOM
 from oracle.sheet import sheet_of, triples
 
@@ -66,6 +69,8 @@ def stored():
     yield from recordings()
     yield from expected(*audits_to_try())
     yield from audits()
+    yield from expected(*allowances_to_try())
+    yield from allowances()
 
 
 # an unknown request ends the run: what follows it gives nothing
@@ -173,3 +178,11 @@ def large():
             yield audit_request(s, counted(cells))
     for _ in range(4000):
         yield from random_audit(rng, (3, 8, 16, 40, 64))
+    yield allowance_request(full, full, 0xffffffff, full)
+    yield allowance_request(K, bytes(8), 17 * 8, full)
+    yield allowance_request(K, bytes(8), 17 * 8, bytes(65535))
+    yield from expected(*longest_allowances())
+    for benches in (1, 2, 3):
+        yield from expected(*every_need(4, benches))
+    for _ in range(4000):
+        yield from random_allowance(rng, (3, 8, 16, 40, 64))

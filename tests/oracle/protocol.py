@@ -1,4 +1,5 @@
 """The trial driver's protocol (docs/TRIALS.md): requests as bytes, and the lines they give."""
+from oracle.allowances import allowance
 from oracle.audits import audit
 from oracle.aut import aut_body
 from oracle.branches import commit, propose
@@ -78,6 +79,10 @@ def audit_request(s, tab):
     return b'\x0f' + blob_of(s) + blob_of(tab)
 
 
+def allowance_request(s, states, visits, tables):
+    return b'\x10' + blob_of(s) + blob_of(states) + four(visits) + blob_of(tables)
+
+
 def yes(b):
     return 'true' if b else 'false'
 
@@ -105,6 +110,12 @@ def asked(sheet, state, tab):
     return reported('query', lambda: judged(sheet, state, tab), 'false', 0)
 
 
+def granted(sheet, states, visits, tables, lines):
+    for need, grant, short, verdict, filled in allowance(sheet, states, visits, tables):
+        lines.append('bench %d %d %s %s %d\n' % (need, grant, yes(short), yes(verdict), filled))
+    return []
+
+
 def written(made, out):
     out[:len(made)] = made
     return [len(made)]
@@ -130,6 +141,9 @@ class Stream:
     def word(self):
         return word(self.take(2), 0)
 
+    def long(self):
+        return int.from_bytes(self.take(4), 'little')
+
     def blob(self):
         return self.take(self.word())
 
@@ -138,7 +152,7 @@ class Stream:
         return tuple(self.take(3))
 
     def proposal(self):
-        return self.word(), self.word(), int.from_bytes(self.take(4), 'little')
+        return self.word(), self.word(), self.long()
 
     def buffer(self):
         """a length and a fill byte"""
@@ -228,10 +242,17 @@ def answer_audit(stream):
     return reported('audit', lambda: [yes(audit(sheet, tab))], 'false')
 
 
+def answer_allowance(stream):
+    sheet, states, visits = stream.blob(), stream.blob(), stream.long()
+    tables, lines = bytearray(stream.blob()), []
+    text = reported('allowance', lambda: granted(sheet, states, visits, tables, lines))
+    return text + ''.join(lines) + 'table %s\n' % tables.hex()
+
+
 ANSWERS = {1: answer_read, 2: answer_guard, 3: answer_reference, 4: answer_list, 5: answer_query,
            6: answer_write, 7: answer_pattern, 8: answer_children, 9: answer_line,
            10: answer_report, 11: answer_aut, 12: answer_propose, 13: answer_commit,
-           14: answer_shortest, 15: answer_audit}
+           14: answer_shortest, 15: answer_audit, 16: answer_allowance}
 
 
 def answered(given):

@@ -9,7 +9,8 @@ use Rattle.sheet.specs.declared.Refusal.the-variants.{NoSuchState, Loop,
 use Rattle.sheet.specs.declared.Check.{Check}
 use Rattle.sheet.specs.declared.Check.the-variants.{Passed, Failed}
 
--- the number of each refusal, "From the input" and "From the state of what is lent"
+-- the number of each refusal, "From the input" and "From the state of what is lent"; document 02 (l): those of a query turn down a call of
+-- grant too, as "the benches' own refusals"
 abbrev pub numberOf : Refusal → ℕ
 -- "1: under 17 bytes."
 numberOf TooShort = 1

@@ -1,4 +1,4 @@
-// Bytes, 16-bit fields and slices of a list of bytes; each is total.
+// Bytes, 16-bit fields and slices of a list of bytes. A byte past the end is 0, and a slice has the bytes that there are.
 use crate::Fields;
 ghost use mathlib.Core.Path.{_≡_};
 ghost use Prim.Native.Nat.{_+_, _*_, _<_};
@@ -34,7 +34,7 @@ pub(crate) fn word_at(s: &[u8], i: usize) -> usize
 }
 
 // The length bytes from start on, or those that there are.
-pub(crate) fn slice_of(s: &[u8], start: usize, length: usize) -> &[u8]
+pub fn slice_of(s: &[u8], start: usize, length: usize) -> &[u8]
     ensures { λ r. ⌜ now r ≡ slice (now (s .entry)) start length ⌝ }
 {
     if s.len() <= start {

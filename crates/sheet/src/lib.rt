@@ -5,7 +5,7 @@ ghost use Rattle.sheet.specs.Refusals.{numberOf, placeOf};
 pub mod actions;
 mod body_check;
 mod contents;
-mod decode;
+pub mod decode;
 pub mod kinds;
 pub mod plan;
 pub mod reader;

@@ -3,6 +3,7 @@ use crate::input;
 use crate::input::Buffer;
 use crate::input::Byte;
 use crate::input::Number;
+use crate::input::Wide;
 use crate::output;
 use branches::Committed;
 use branches::Proposal;
@@ -41,10 +42,6 @@ fn read_branch() -> Branch {
     })
 }
 
-fn tag_of(low: u16, high: u16) -> u32 {
-    low as u32 + 65536 * (high as u32)
-}
-
 // A proposal: its place and its length of 16 bits, its tag of 32.
 fn read_offer() -> Offer {
     let Number::Got(place) = input::read_number() else {
@@ -53,16 +50,13 @@ fn read_offer() -> Offer {
     let Number::Got(length) = input::read_number() else {
         return Offer::Ended;
     };
-    let Number::Got(low) = input::read_number() else {
-        return Offer::Ended;
-    };
-    let Number::Got(high) = input::read_number() else {
+    let Wide::Got(tag) = input::read_wide() else {
         return Offer::Ended;
     };
     Offer::Got(Proposal {
         insertion: place,
         length: length as usize,
-        tag: tag_of(low, high),
+        tag,
     })
 }
 

@@ -1,10 +1,13 @@
-// Operands from standard input: a byte, a 16-bit number, a blob.
+// Operands from standard input: a byte, a 16-bit number, a 32-bit number, a blob.
 use libc::STDIN_FILENO;
 ghost use Prim.Native.Nat.{_≤_};
 ghost use lib.ListN.{length};
 
 // Room for a blob of any length that 16 bits allow.
 pub(crate) type Buffer = [u8; 65536];
+
+// How many values 16 bits have.
+const WORD_VALUES: u32 = 65536;
 
 pub(crate) enum Byte {
     Got(u8),
@@ -14,6 +17,12 @@ pub(crate) enum Byte {
 // A 16-bit number, or a blob by its length.
 pub(crate) enum Number {
     Got(u16),
+    Ended,
+}
+
+// A 32-bit number.
+pub(crate) enum Wide {
+    Got(u32),
     Ended,
 }
 
@@ -37,6 +46,20 @@ pub(crate) fn read_number() -> Number {
         return Number::Ended;
     }
     Number::Got(number_of(two[0], two[1]))
+}
+
+fn wide_of(low: u16, high: u16) -> u32 {
+    low as u32 + WORD_VALUES * (high as u32)
+}
+
+pub(crate) fn read_wide() -> Wide {
+    let Number::Got(low) = read_number() else {
+        return Wide::Ended;
+    };
+    let Number::Got(high) = read_number() else {
+        return Wide::Ended;
+    };
+    Wide::Got(wide_of(low, high))
 }
 
 fn read_start(buf: &mut [u8], n: usize) -> usize

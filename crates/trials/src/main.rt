@@ -1,4 +1,5 @@
 // The trial driver: reads requests from standard input until it ends, and writes the result of each as text.
+mod allowed;
 mod audited;
 mod branch;
 mod children;
@@ -44,6 +45,7 @@ fn answer(
         13 => branch::answer_commit(first, second),
         14 => recorded::answer(first, second, third),
         15 => audited::answer(first, second),
+        16 => allowed::answer(first, second, third),
         _ => false,
     }
 }

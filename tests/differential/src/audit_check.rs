@@ -242,12 +242,7 @@ fn small(seed: u64) -> Result<Agreed, String> {
 /// The key sheet with the table that its states leave: every count up to 70,000 and every bit of it, every length, every byte in the
 /// place of every cell, every cell emptied or turned round with the count that is then right.
 fn key() -> Result<Agreed, String> {
-    let plan = [3, 3, 2, 0, 0, 1, 1, 1, 2, 2];
-    let entries = [3, 2, 0, 0, 2, 1, 0, 2, 2, 0];
-    let rule = [
-        12, 7, 0, 1, 2, 2, 4, 4, 2, 3, 1, 0, 0, 2, 5, 7, 4, 0, 6, 6, 0, 0, 7, 1, 8, 2, 9, 10, 6, 0, 0, 4, 1, 11, 6, 1, 0,
-    ];
-    let sheet = oracle::assemble(&plan, &entries, &rule);
+    let sheet = gen::key();
     let mut table = vec![0; 112];
     for s in 0..3 {
         oracle::query(&sheet, s, &mut table).map_err(|e| format!("{e:?}"))?;

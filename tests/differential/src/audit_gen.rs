@@ -65,7 +65,7 @@ fn changed(r: &mut Rng, p: &oracle::Parts, cells: &mut [u8]) {
 }
 
 /// Cells for an accepted sheet.
-fn cells(r: &mut Rng, sheet: &[u8], p: &oracle::Parts) -> Vec<u8> {
+pub fn cells(r: &mut Rng, sheet: &[u8], p: &oracle::Parts) -> Vec<u8> {
     let n = p.cells();
     match r.below(20) {
         0 => vec![0; n],
@@ -113,7 +113,7 @@ fn cells(r: &mut Rng, sheet: &[u8], p: &oracle::Parts) -> Vec<u8> {
 }
 
 /// A plan with few loops, a rule with binders beside each other and inside.
-fn sheet(r: &mut Rng) -> Vec<u8> {
+pub fn sheet(r: &mut Rng) -> Vec<u8> {
     if r.chance(25) {
         return gen::sheet(r, 70);
     }

@@ -1,5 +1,6 @@
 //! The benchmark: the trial driver and this program, each a process that reads the same stored requests.
 
+use crate::allowances::{self, MOST as BENCHES};
 use crate::audit_gen;
 use crate::audits;
 use crate::aut;
@@ -30,6 +31,9 @@ const SIZES: [(usize, usize); 5] = [(8, 1), (16, 2), (32, 3), (64, 4), (128, 6)]
 const K_SIZE: [(usize, usize); 1] = [(3, 2)];
 /// The actions of recordings, and the binders of the rule.
 const RUN_SIZES: [(usize, usize); 3] = [(10, 3), (50, 3), (127, 3)];
+/// States and binders for which eight tables fit in a request, and those of the largest table.
+const BENCH_SIZES: [(usize, usize); 3] = [(8, 1), (32, 3), (128, 2)];
+const LARGEST_SIZE: [(usize, usize); 1] = [(128, 6)];
 
 /// A plan of `n` states, each with 16 transitions of 4 actions to the next 8 states (fewer near the end).
 fn plan(r: &mut Rng, n: usize, back: bool) -> Vec<[u8; 3]> {
@@ -238,21 +242,10 @@ fn branchable(n: usize, binders: usize, index: u64) -> (Vec<u8>, [Branch; 3]) {
     }
 }
 
-/// The key sheet, and a branch for it.
-fn key() -> (Vec<u8>, Branch) {
-    let plan = [3, 3, 2, 0, 0, 1, 1, 1, 2, 2];
-    let entries = [3, 2, 0, 0, 2, 1, 0, 2, 2, 0];
-    let nodes = [
-        [7, 0, 1], [2, 2, 4], [4, 2, 3], [1, 0, 0], [2, 5, 7], [4, 0, 6],
-        [6, 0, 0], [7, 1, 8], [2, 9, 10], [6, 0, 0], [4, 1, 11], [6, 1, 0],
-    ];
-    (oracle::assemble(&plan, &entries, &gen::list_body(&nodes)), [0, 2, 2])
-}
-
 /// The request for a branch, and the same with a sheet of no bytes.
 fn parking(name: &str, n: usize, binders: usize, index: u64) -> (Request, Request) {
     let (sheet, branch) = match name {
-        PROPOSE_K | COMMIT_K => key(),
+        PROPOSE_K | COMMIT_K => (gen::key(), [0, 2, 2]),
         _ => {
             let (sheet, [front, middle, end]) = branchable(n, binders, index);
             let branch = match name {
@@ -356,20 +349,24 @@ fn left(sheet: &[u8]) -> Vec<u8> {
     table
 }
 
-/// A sheet with a table that a supplier filled: 16 n transitions, n / 2 nodes, without loops.
-fn supplied(name: &str, n: usize, binders: usize, index: u64) -> (Vec<u8>, Vec<u8>) {
-    if name == AUDIT_K {
-        let (sheet, _) = key();
-        let table = left(&sheet);
-        return (sheet, table);
-    }
+/// A sheet of n states and 16 n transitions, without loops, with a rule of so many nodes.
+fn combed(n: usize, nodes: usize, binders: usize, index: u64) -> Vec<u8> {
     let (old, [_, branch, _]) = branchable(n, binders, index);
     let mut sheet = vec![0; old.len() + 3];
     branches::commit(&old, branch, branch_gen::likely(&old, branch), &mut sheet).expect("a branch that is taken");
     let [plan, entries, _] = oracle::contents(&sheet).expect("a valid sheet").map(|(at, length)| &sheet[at..at + length]);
     let mut r = Rng::new(SEED, 6_000_000 + 1000 * n as u64 + index);
-    let nodes = comb(&mut r, n / 2, binders, n / 4);
-    let sheet = oracle::assemble(plan, entries, &gen::list_body(&nodes));
+    oracle::assemble(plan, entries, &gen::list_body(&comb(&mut r, nodes, binders, n / 4)))
+}
+
+/// A sheet with a table that a supplier filled, for a rule of n / 2 nodes.
+fn supplied(name: &str, n: usize, binders: usize, index: u64) -> (Vec<u8>, Vec<u8>) {
+    if name == AUDIT_K {
+        let sheet = gen::key();
+        let table = left(&sheet);
+        return (sheet, table);
+    }
+    let sheet = combed(n, n / 2, binders, index);
     let ok = oracle::read(&sheet).expect("a valid sheet");
     let table = match name {
         AUDIT_FULL => audit_gen::counted(audit_gen::full(&ok.parts, false)),
@@ -384,6 +381,50 @@ fn auditing(name: &str, n: usize, binders: usize, index: u64) -> (Request, Reque
     let (sheet, table) = supplied(name, n, binders, index);
     assert_eq!(audits::audit(&sheet, &table), Ok(true), "{name}, n = {n}");
     (Request::Audit { sheet, table: table.clone() }, Request::Audit { sheet: vec![], table })
+}
+
+/// What benches of these states need with tables just cleared.
+fn needs(sheet: &[u8], states: &[u8]) -> Vec<usize> {
+    let size = oracle::read(sheet).expect("a valid sheet").parts.table_len();
+    let need = |&s: &u8| oracle::query(sheet, s, &mut vec![0; size]).expect("a plan without loops").1;
+    states.iter().map(need).collect()
+}
+
+/// The request for an allowance, and the same with a sheet of no bytes. Of twelve sheets the one is taken whose benches need most.
+fn granting(name: &str, n: usize, binders: usize, index: u64) -> (Request, Request) {
+    let (nodes, states): (usize, Vec<u8>) = match name {
+        GRANT_K => (0, vec![0, 1, 2]),
+        GRANT_LARGEST => (n / 2, vec![0]),
+        _ => ((n / 2).min(21), (0..BENCHES).map(|i| (i * n / BENCHES) as u8).collect()),
+    };
+    let made = (0..12).map(|k| combed(n, nodes, binders, index + SHEETS as u64 * k));
+    let sheet = match name {
+        GRANT_K => gen::key(),
+        _ => made.max_by_key(|s| needs(s, &states).iter().sum::<usize>()).expect("one at least"),
+    };
+    let mut needs = needs(&sheet, &states);
+    let size = oracle::read(&sheet).expect("a valid sheet").parts.table_len();
+    let mut tables = vec![0; states.len() * size];
+    let ask = |tables: &mut [u8], visits| allowances::allowance(&sheet, &states, visits, tables).expect("a plan without loops");
+    if name == GRANT_FULL {
+        ask(&mut tables, u32::MAX);
+    }
+    needs.sort();
+    let visits = match name {
+        GRANT_NONE | GRANT_FULL => 0,
+        // enough for four of them
+        GRANT_HALF => needs.iter().map(|&need| need.min(needs[3])).sum(),
+        _ => needs.iter().sum::<usize>(),
+    } as u32;
+    let short = ask(&mut tables.clone(), visits).iter().filter(|bench| bench.short).count();
+    let right = match name {
+        GRANT_NONE => BENCHES,
+        GRANT_HALF => needs.iter().filter(|&&need| need > needs[3]).count(),
+        _ => 0,
+    };
+    assert_eq!(short, right, "{name}, n = {n}");
+    let request = |sheet: Vec<u8>| Request::Allowance { sheet, states: states.clone(), visits, tables: tables.clone() };
+    (request(sheet.clone()), request(vec![]))
 }
 
 struct Program {
@@ -474,9 +515,15 @@ const AUDIT_FULL: &str = "auditing a full table";
 const AUDIT_LIST: &str = "auditing the table of a list";
 const AUDIT_EMPTY: &str = "auditing an empty table";
 const AUDIT_K: &str = "auditing a table for K";
+const GRANT_ALL: &str = "granting 8 benches all";
+const GRANT_HALF: &str = "granting 8 benches half";
+const GRANT_NONE: &str = "granting 8 benches nothing";
+const GRANT_FULL: &str = "granting 8 benches that need nothing";
+const GRANT_LARGEST: &str = "granting a bench of the largest table";
+const GRANT_K: &str = "granting 3 benches of K";
 
 /// Each with its request.
-const OPS: [(&str, u8); 34] = [
+const OPS: [(&str, u8); 40] = [
     (READING, 1),
     (REFERENCE, 3),
     (FIRST_QUERY, 4),
@@ -511,15 +558,22 @@ const OPS: [(&str, u8); 34] = [
     (AUDIT_LIST, 15),
     (AUDIT_EMPTY, 15),
     (AUDIT_K, 15),
+    (GRANT_ALL, 16),
+    (GRANT_HALF, 16),
+    (GRANT_NONE, 16),
+    (GRANT_FULL, 16),
+    (GRANT_LARGEST, 16),
+    (GRANT_K, 16),
 ];
 
-/// The plots, each with what it shows and its calls. What is measured for K has one size and no plot.
-const PLOTS: [(&str, &str, Range<usize>); 5] = [
+/// The plots, each with what it shows and its calls. What is measured for K or for the largest table has one size and no plot.
+const PLOTS: [(&str, &str, Range<usize>); 6] = [
     ("benchmark.svg", "Instructions for one request, and their ratio, by n", 0..12),
     ("benchmark-aut.svg", "The same for .aut texts", 12..21),
     ("benchmark-branches.svg", "The same for branches", 21..25),
     ("benchmark-recordings.svg", "The same for recordings", 27..30),
     ("benchmark-audits.svg", "The same for audits", 30..33),
+    ("benchmark-allowances.svg", "The same for allowances", 34..38),
 ];
 
 fn stream(requests: &[Request], times: usize) -> Vec<u8> {
@@ -595,8 +649,10 @@ pub fn bench(trials: &str, numbers: &[u8], out: &str) -> i32 {
             continue;
         }
         let sizes = match name {
-            PROPOSE_K | COMMIT_K | AUDIT_K => &K_SIZE[..],
+            PROPOSE_K | COMMIT_K | AUDIT_K | GRANT_K => &K_SIZE[..],
             RUNS | RUNS_EARLY | RUNS_DEEP => &RUN_SIZES,
+            GRANT_ALL | GRANT_HALF | GRANT_NONE | GRANT_FULL => &BENCH_SIZES,
+            GRANT_LARGEST => &LARGEST_SIZE,
             _ => &SIZES,
         };
         for &(n, binders) in sizes {
@@ -635,6 +691,9 @@ pub fn bench(trials: &str, numbers: &[u8], out: &str) -> i32 {
                 RUNS | RUNS_EARLY | RUNS_DEEP => (0..SHEETS as u64).map(|index| searching(name, n, index)).unzip(),
                 AUDIT_FULL | AUDIT_LIST | AUDIT_EMPTY | AUDIT_K => {
                     (0..SHEETS as u64).map(|index| auditing(name, n, binders, index)).unzip()
+                }
+                GRANT_ALL | GRANT_HALF | GRANT_NONE | GRANT_FULL | GRANT_LARGEST | GRANT_K => {
+                    (0..SHEETS as u64).map(|index| granting(name, n, binders, index)).unzip()
                 }
                 LINE | PARENTHESES | NOTS | LONG_NUMBER => (typing(typed(name, n)), typing(vec![vec![]; SHEETS])),
                 _ => {
@@ -775,7 +834,8 @@ fn page(rows: &[Row], missing: &[&str], start: &[f64], start_time: &[f64], each:
         operators for a line, a hash table of the labels and a sort of the transitions for an .aut text, a
         search by halving, one through the transitions and one copy for a branch, a table of just the
         size for each beginning of a recording, one search for loops and one pass over the cells for an
-        audit; each call that takes a sheet reads it, as in the driver.",
+        audit, at most two queries of each bench, one of them on a copy, and whole rounds dealt at once for
+        an allowance; each call that takes a sheet reads it, as in the driver.",
     );
     o += &paragraph(
         "Sheets grow in every part: n states, about 16 n transitions of 4 actions, 8 action entries of any
@@ -840,6 +900,17 @@ fn page(rows: &[Row], missing: &[&str], start: &[f64], start_time: &[f64], each:
         bytes, and so they have in them the reading of the sheet.",
     );
     o += &paragraph(
+        "An allowance is granted on 4 sheets like those of audits, each that of twelve whose benches need
+        most, with fewer nodes where eight tables would not fit in a request: n is 8, 32 and 128, there are
+        4, 16 and 21 nodes, and 1, 3 and 2 binders. The states of the 8 benches are spread evenly over the
+        plan. All: the tables are just cleared, and there are as many visits as are needed. Half: as many as
+        are enough for four of the benches. Nothing: no visit, so that each bench is short. Benches that
+        need nothing have asked before, each in its table. Then one bench with the largest table,
+        128 states, 64 nodes and 7 marks, and all the visits it needs; and K with benches of states 0, 1 and
+        2 and 30 visits, all they need. The figures of allowances are less that of the same request with a
+        sheet of no bytes, and so they have in them the reading of the sheet, once and then in each query.",
+    );
+    o += &paragraph(
         "Instructions are those of `valgrind --tool=callgrind`; times are the shortest of 9 runs, the programs
         taking turns, and \"in the noise\" stands where what is left after taking away is under 15% of what
         was measured.",
@@ -856,7 +927,10 @@ fn page(rows: &[Row], missing: &[&str], start: &[f64], start_time: &[f64], each:
     for (name, shown, _) in plots(rows) {
         let _ = writeln!(o, "![{shown}]({name})\n");
     }
-    o += &paragraph("\"Growth\" is the factor over the row before, where n is half as large; of recordings, where it is 10 or 50.");
+    o += &paragraph(
+        "\"Growth\" is the factor over the row before, where n is half as large; of recordings, where it is 10
+        or 50; of allowances, where it is a quarter.",
+    );
     o += "| call | n | driver, instructions | growth | Rust, instructions | growth | ratio | driver, us | Rust, us | ratio of time |\n";
     o += "|---|---:|---:|---:|---:|---:|---:|---:|---:|---:|\n";
     for (i, r) in rows.iter().enumerate() {

@@ -1,5 +1,7 @@
 //! Comparisons: stored vectors, the oracle with itself, and the trial driver with the oracle.
 
+use crate::allowance_check;
+use crate::allowance_gen;
 use crate::audit_check;
 use crate::audit_gen;
 use crate::aut;
@@ -300,7 +302,7 @@ pub fn compare(trials: &str, seed: u64, count: u64, numbers: &[u8], shrinking: b
     let (mut made, mut typed) = (pattern_check::Tally::default(), line_check::Tally::default());
     let (mut reported, mut drawn) = (report_check::Tally::default(), aut_check::Tally::default());
     let (mut parked, mut recorded) = (branch_check::Tally::default(), recording_check::Tally::default());
-    let mut audited = audit_check::Tally::default();
+    let (mut audited, mut allowed) = (audit_check::Tally::default(), allowance_check::Tally::default());
     let (mut done, mut differences, mut told) = (0u64, 0u64, 0);
     while done < count {
         let n = BATCH.min(count - done);
@@ -326,6 +328,7 @@ pub fn compare(trials: &str, seed: u64, count: u64, numbers: &[u8], shrinking: b
             parked.count(r);
             recorded.count(r);
             audited.count(r);
+            allowed.count(r);
             let want = protocol::expected(r);
             let text = String::from_utf8_lossy(&want);
             loops.count(r, &text);
@@ -404,6 +407,9 @@ pub fn compare(trials: &str, seed: u64, count: u64, numbers: &[u8], shrinking: b
     if numbers.contains(&15) {
         println!("{audited}");
     }
+    if numbers.contains(&16) {
+        println!("{allowed}");
+    }
     println!("seed {seed}: {done} requests compared, {differences} differences, {:.1} s", begun.elapsed().as_secs_f64());
     i32::from(differences > 0)
 }
@@ -446,6 +452,9 @@ fn describe(trials: &str, r: &Request) {
             let (cells, rest) = table.split_at(cells(sheet).min(table.len()));
             let filled: Vec<(usize, u8)> = (0..cells.len()).map(|i| (i, cells[i])).filter(|v| v.1 != 0).collect();
             println!("    sheet {sheet:?}\n    table of {} cells, those that are not 0 {filled:?}, then {rest:?}", cells.len())
+        }
+        Request::Allowance { sheet, states, visits, tables } => {
+            println!("    sheet {sheet:?}\n    states {states:?}, {visits} visits\n    tables {tables:?}")
         }
     }
     println!("    oracle {}", clip(&protocol::answers(&b)));
@@ -911,6 +920,48 @@ fn candidates(r: &Request) -> Vec<Request> {
                     put(&s, audit_gen::whole(&s));
                 }
                 put(&s, t);
+            }
+            out
+        }
+        Request::Allowance { sheet, states, visits, tables } => {
+            let was = cells(sheet);
+            let size = was + 4;
+            let mut out = Vec::new();
+            let mut put = |sheet: &[u8], states: &[u8], visits: u32, tables: Vec<u8>| {
+                out.push(Request::Allowance { sheet: sheet.to_vec(), states: states.to_vec(), visits, tables })
+            };
+            // a bench less, with its table
+            for i in 0..states.len() {
+                let own = (i * size).min(tables.len())..((i + 1) * size).min(tables.len());
+                let others = [&states[..i], &states[i + 1..]].concat();
+                put(sheet, &others, *visits, [&tables[..own.start], &tables[own.end..]].concat());
+                put(sheet, &others, *visits, tables.clone());
+            }
+            let each: Vec<&[u8]> = tables.chunks(size).collect();
+            for (i, own) in each.iter().enumerate().filter(|v| v.1.len() == size) {
+                let with = |t: &[u8]| [&each[..i], &[t], &each[i + 1..]].concat().concat();
+                put(sheet, states, *visits, with(&vec![0; size]));
+                emptied(own, was).iter().for_each(|t| put(sheet, states, *visits, with(t)));
+            }
+            put(sheet, states, *visits, tables[..tables.len().min(states.len() * size)].to_vec());
+            for v in [0, visits / 2, visits.saturating_sub(1)] {
+                if v < *visits {
+                    put(sheet, states, v, tables.clone());
+                }
+            }
+            for (i, &s) in states.iter().enumerate().filter(|v| *v.1 > 0) {
+                let mut lower = states.clone();
+                lower[i] = s - 1;
+                put(sheet, &lower, *visits, tables.clone());
+            }
+            // visits that are off the needs by as much as before, or the same
+            let off = visits.wrapping_sub(allowance_gen::needs(sheet, states, tables, size));
+            for s in smaller_sheets(sheet) {
+                let other: Vec<u8> = each.iter().flat_map(|t| refitted(t, was, cells(&s))).collect();
+                let fit = allowance_gen::needs(&s, states, &other, cells(&s) + 4).wrapping_add(off);
+                for v in [fit, *visits] {
+                    put(&s, states, v, other.clone());
+                }
             }
             out
         }

@@ -1,5 +1,6 @@
 //! Requests made from a seed: request number i of a seed is always the same.
 
+use crate::allowance_gen;
 use crate::audit_gen;
 use crate::aut_gen;
 use crate::branch_gen;
@@ -73,6 +74,17 @@ pub fn list_body(v: &[[u8; 3]]) -> Vec<u8> {
     let mut b = vec![v.len() as u8];
     b.extend(v.concat());
     b
+}
+
+/// The key sheet.
+pub fn key() -> Vec<u8> {
+    let plan = [3, 3, 2, 0, 0, 1, 1, 1, 2, 2];
+    let entries = [3, 2, 0, 0, 2, 1, 0, 2, 2, 0];
+    let nodes = [
+        [7, 0, 1], [2, 2, 4], [4, 2, 3], [1, 0, 0], [2, 5, 7], [4, 0, 6],
+        [6, 0, 0], [7, 1, 8], [2, 9, 10], [6, 0, 0], [4, 1, 11], [6, 1, 0],
+    ];
+    oracle::assemble(&plan, &entries, &list_body(&nodes))
 }
 
 impl Parts {
@@ -947,8 +959,8 @@ pub fn states(r: &mut Rng, sheet: &[u8], count: usize) -> Vec<u8> {
 const WORK: u64 = 60_000;
 
 /// Request number `index` of a seed. The first three are the deepest chain of cells that we know how to make; the next three have
-/// its plan with a loop at the last state but one or at the last, the next two its rule on runs as long as they may be, and the next
-/// its table with all cells filled.
+/// its plan with a loop at the last state but one or at the last, the next two its rule on runs as long as they may be, the next its
+/// table with all cells filled, and the next two a bench with its table.
 pub fn request_at(seed: u64, index: u64, numbers: &[u8]) -> Request {
     let mut r = Rng::new(seed, index);
     let number = [4, 5, 10][index as usize % 3];
@@ -973,6 +985,9 @@ pub fn request_at(seed: u64, index: u64, numbers: &[u8]) -> Request {
     }
     if index == 8 && numbers.contains(&15) {
         return audit_gen::deepest(&mut r);
+    }
+    if (9..11).contains(&index) && numbers.contains(&16) {
+        return allowance_gen::deepest(&mut r);
     }
     request(&mut r, numbers)
 }
@@ -1055,6 +1070,7 @@ fn request(r: &mut Rng, numbers: &[u8]) -> Request {
         13 => branch_gen::commit(r),
         14 => recording_gen::request(r),
         15 => audit_gen::request(r),
+        16 => allowance_gen::request(r),
         _ => {
             let mut b = bodies(r);
             if r.chance(1) {

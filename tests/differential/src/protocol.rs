@@ -1,8 +1,9 @@
 //! The trial driver's protocol (TRIALS.md): requests from bytes, and the lines that answer each.
 
+use crate::allowances::Bench;
 use crate::branches::{self, Branch, Proposal};
 use crate::recordings::{self, Which};
-use crate::{audits, aut, lines, oracle, patterns, reports};
+use crate::{allowances, audits, aut, lines, oracle, patterns, reports};
 use std::io::Write;
 
 #[derive(Clone, PartialEq, Eq, Debug)]
@@ -22,6 +23,7 @@ pub enum Request {
     Commit { sheet: Vec<u8>, branch: Branch, proposal: Proposal, out_len: u16, fill: u8 },
     Shortest { sheet: Vec<u8>, first: Vec<u8>, second: Vec<u8> },
     Audit { sheet: Vec<u8>, table: Vec<u8> },
+    Allowance { sheet: Vec<u8>, states: Vec<u8>, visits: u32, tables: Vec<u8> },
 }
 
 fn blob(out: &mut Vec<u8>, b: &[u8]) {
@@ -47,6 +49,7 @@ impl Request {
             Request::Commit { .. } => 13,
             Request::Shortest { .. } => 14,
             Request::Audit { .. } => 15,
+            Request::Allowance { .. } => 16,
         }
     }
 
@@ -111,6 +114,12 @@ impl Request {
             }
             Request::Shortest { sheet, first, second } => [sheet, first, second].into_iter().for_each(|b| blob(out, b)),
             Request::Audit { sheet, table } => [sheet, table].into_iter().for_each(|b| blob(out, b)),
+            Request::Allowance { sheet, states, visits, tables } => {
+                blob(out, sheet);
+                blob(out, states);
+                out.extend(visits.to_le_bytes());
+                blob(out, tables);
+            }
         }
     }
 }
@@ -132,6 +141,7 @@ pub enum View<'a> {
     Commit { sheet: &'a [u8], branch: Branch, proposal: Proposal, out_len: usize, fill: u8 },
     Shortest { sheet: &'a [u8], first: &'a [u8], second: &'a [u8] },
     Audit { sheet: &'a [u8], table: &'a [u8] },
+    Allowance { sheet: &'a [u8], states: &'a [u8], visits: u32, tables: &'a [u8] },
 }
 
 pub struct Input<'a> {
@@ -157,12 +167,15 @@ impl<'a> Input<'a> {
         let n = self.word()?;
         self.take(n)
     }
+    fn long(&mut self) -> Option<u32> {
+        Some(self.word()? as u32 | (self.word()? as u32) << 16)
+    }
     fn branch(&mut self) -> Option<Branch> {
         Some([self.byte()?, self.byte()?, self.byte()?])
     }
     fn proposal(&mut self) -> Option<Proposal> {
         let (place, length) = (self.word()? as u16, self.word()? as u16);
-        Some(Proposal { place, length, tag: self.word()? as u32 | (self.word()? as u32) << 16 })
+        Some(Proposal { place, length, tag: self.long()? })
     }
     /// The next request; None at the end, on a request cut short and on an unknown byte.
     pub fn request(&mut self) -> Option<View<'a>> {
@@ -199,6 +212,7 @@ impl<'a> Input<'a> {
             },
             14 => View::Shortest { sheet: self.blob()?, first: self.blob()?, second: self.blob()? },
             15 => View::Audit { sheet: self.blob()?, table: self.blob()? },
+            16 => View::Allowance { sheet: self.blob()?, states: self.blob()?, visits: self.long()?, tables: self.blob()? },
             _ => return None,
         })
     }
@@ -336,6 +350,19 @@ pub fn answer(request: &View, out: &mut Vec<u8>) {
             Ok(yes) => writeln!(out, "audit 0 0 {yes}"),
             Err((n, p)) => writeln!(out, "audit {n} {p} false"),
         },
+        View::Allowance { sheet, states, visits, tables } => {
+            let mut tables = tables.to_vec();
+            let ((n, p), benches) = match allowances::allowance(sheet, states, *visits, &mut tables) {
+                Ok(benches) => ((0, 0), benches),
+                Err(r) => (r, vec![]),
+            };
+            let _ = writeln!(out, "allowance {n} {p}");
+            for Bench { need, grant, short, verdict, visits } in benches {
+                let _ = writeln!(out, "bench {need} {grant} {short} {verdict} {visits}");
+            }
+            hex("table", &tables, out);
+            Ok(())
+        }
     };
 }
 

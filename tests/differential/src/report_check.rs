@@ -105,12 +105,7 @@ impl Agreed {
 
 /// Document 01's key sheet with P1 to P3, and a state that it does not have.
 fn key() -> Result<Agreed, String> {
-    let plan = [3, 3, 2, 0, 0, 1, 1, 1, 2, 2];
-    let actions = [3, 2, 0, 0, 2, 1, 0, 2, 2, 0];
-    let rule = [
-        12, 7, 0, 1, 2, 2, 4, 4, 2, 3, 1, 0, 0, 2, 5, 7, 4, 0, 6, 6, 0, 0, 7, 1, 8, 2, 9, 10, 6, 0, 0, 4, 1, 11, 6, 1, 0,
-    ];
-    let sheet = assemble(&plan, &actions, &rule);
+    let sheet = gen::key();
     let (mut table, mut out) = ([5; 112], [5; ROOM]);
     let text = b"0 true 17\n1 true 0\n2 false 9\n3 refused 0\ntotal 26\n";
     if reports::report(&sheet, &[0, 1, 2, 3], &mut table, &mut out) != Ok(text.len()) || !out.starts_with(text) {

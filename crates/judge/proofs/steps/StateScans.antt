@@ -1,5 +1,5 @@
 -- The pass that scans a table state by state: which states have a filled cell.
-use Prim.Native.Nat.{ℕ, zero, suc, _+_, _*_, _-_, _<_, _≤_}
+use Prim.Native.Nat.{ℕ, _+_, _*_, _-_, _<_, _≤_}
 use mathlib.Core.Path.{_≡_, refl, sym, ap, subst, _∙_}
 use mathlib.Core.Bool.{Bool, true, false}
 use mathlib.Core.List.{List}
@@ -13,22 +13,14 @@ use lib.Seq.{getD-set-same, getD-set-other, getD-take, getD-drop, length-take-le
 use Rattle.sheet.specs.Bytes.{lowest}
 use Rattle.sheet.proofs.checks.Checks.{none-found, one-found}
 use Rattle.rows.specs.Tables.{byteAt, filled, count}
-use Rattle.rows.proofs.tables.Counting.{oneIf, count-suc, count-cong, count-none}
+use Rattle.rows.proofs.tables.Counting.{count-cong, count-none, count-some}
 use Rattle.graph.specs.Explored.{StartsFrom}
 use Rattle.judge.specs.internal.Scanning.{scanOf, BlockScanned, fine, bad}
 use Rattle.judge.specs.internal.Auditing.{ScannedRequires, FilledIn, StatesScanned, over, counted}
 use Rattle.judge.specs.declared.Scanned.the-variants.{ByteOver, Filled}
 use Rattle.judge.proofs.steps.ScanSteps.{Scanning, scan-start, scan-next, scan-bound, scanned-filled, scanned-over}
 
--- where one of the first n numbers passes a test, so many pass; and where some do, there is one
-count-some : (n : ℕ) (p : ℕ → Bool) (j : ℕ) → j < n → p j ≡ true → count n p ≢ 0
-count-some zero p j h e q = absurd (omega arith)
-count-some (suc n) p j h e q =
-    elim (ℕ-discrete j n) [
-      | yes k ↦ omega (arith, q, count-suc n p, ap oneIf (ap p (sym k) ∙ e))
-      | no k ↦ count-some n p j (omega arith) e (omega (arith, q, count-suc n p))
-    ]
-
+-- where some of the first n numbers pass a test, there is one
 some-counted : (n : ℕ) (p : ℕ → Bool) → count n p ≢ 0 → (j : ℕ) × (j < n) × (p j ≡ true)
 some-counted n p h = go (eqb (lowest p n) n) refl
   where

@@ -6,6 +6,7 @@ use mathlib.Core.Path.{_≡_, refl, sym, ap, _∙_}
 use Prim.Native.Nat.{ℕ, zero, suc, _+_, _≤_, _<_}
 use native.Mathlib.Nat.{le-of-suc-le-suc, not-suc-le-zero}
 use native.Mathlib.Omega.{arith}
+use native.Mathlib.Decide.{ℕ-discrete}
 use lib.Dec.{eqb}
 use lib.ListN.{length}
 use borrow.Author.Tests.{ne-eqb, eqb-true, eqb-false}
@@ -54,6 +55,15 @@ count-cong (suc n) p q h =
 pub count-none : (n : ℕ) (p : ℕ → Bool) → ((i : ℕ) → i < n → p i ≡ false) → count n p ≡ 0
 count-none zero p h = count-zero p
 count-none (suc n) p h = rw (count-suc n p, h n (omega arith), count-none n p (λ i l. h i (omega arith)))
+
+-- where one of them passes, some are counted
+pub count-some : (n : ℕ) (p : ℕ → Bool) (j : ℕ) → j < n → p j ≡ true → count n p ≢ 0
+count-some zero p j h e q = absurd (omega arith)
+count-some (suc n) p j h e q =
+    elim (ℕ-discrete j n) [
+      | yes k ↦ omega (arith, q, count-suc n p, ap oneIf (ap p (sym k) ∙ e))
+      | no k ↦ count-some n p j (omega arith) e (omega (arith, q, count-suc n p))
+    ]
 
 pub count-le : (n : ℕ) (p : ℕ → Bool) → count n p ≤ n
 count-le zero p = omega (arith, count-zero p)

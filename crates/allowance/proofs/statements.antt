@@ -1,0 +1,4 @@
+pub mod DealingCorrect
+pub mod DealingsToTry
+pub mod GrantsCorrect
+pub mod GrantsToTry

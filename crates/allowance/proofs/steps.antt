@@ -1,0 +1,5 @@
+pub mod Tables
+pub mod Needing
+pub mod Dealing
+pub mod Granting
+pub mod Accepting
