@@ -20,7 +20,7 @@ const MOST_ENTRIES: usize = 32;
 const LONGEST_BODY: usize = 97;
 
 // A token of a line. A number from 255 on is held as 255: it is no action, whatever A is.
-#[derive(Drop)]
+#[derive(Clone, Copy)]
 pub(crate) enum Token {
     Number(u8),
     True,
@@ -34,14 +34,14 @@ pub(crate) enum Token {
 }
 
 // A token, and the place behind it.
-#[derive(Drop)]
+#[derive(Clone, Copy)]
 pub(crate) struct Lexeme {
     pub token: Token,
     pub end: usize,
 }
 
 // What the line can go on with, and how many parentheses are open.
-#[derive(Drop)]
+#[derive(Clone, Copy)]
 pub(crate) enum Expected {
     Operand(usize),
     Operator(usize),
@@ -49,7 +49,7 @@ pub(crate) enum Expected {
 }
 
 // What the pass over a line finds out: the number of entries of a readable line whose actions are known.
-#[derive(Drop)]
+#[derive(Clone, Copy)]
 pub(crate) enum Outline {
     Unreadable,
     UnknownAction,
@@ -57,7 +57,7 @@ pub(crate) enum Outline {
 }
 
 // How far the entries are made: parentheses open, operators that wait, entries.
-#[derive(Drop)]
+#[derive(Clone, Copy)]
 pub(crate) struct Progress {
     pub depth: usize,
     pub waiting: usize,
@@ -65,7 +65,7 @@ pub(crate) struct Progress {
 }
 
 // What the parser answers: the length of the body that it wrote, or why it turned its input down.
-#[derive(Drop)]
+#[derive(Clone, Copy)]
 pub enum Parsed {
     Wrote(usize),
     Unreadable,

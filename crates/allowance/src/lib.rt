@@ -14,7 +14,7 @@ pub const MOST_BENCHES: usize = 8;
 
 // Whether the visits were dealt, or why the call was turned down: the number of benches is 0 or too large, or a bench's own refusal, of which a wrong
 // count is one.
-#[derive(Drop)]
+#[derive(Clone, Copy)]
 pub enum Answer {
     Dealt,
     BenchCountWrong,
@@ -49,7 +49,7 @@ impl Answer {
 }
 
 // What the call gives of a bench: its need, its grant, whether it is short, and the verdict and the visits of its query, false and 0 where it is short.
-#[derive(Drop)]
+#[derive(Clone, Copy)]
 pub struct Bench {
     pub need: usize,
     pub grant: usize,
@@ -59,7 +59,7 @@ pub struct Bench {
 }
 
 // What the call gives: the answer, and beside it the benches in order. From the number of benches on, and on a refusal, every result is 0.
-#[derive(Drop)]
+#[derive(Clone, Copy)]
 pub struct Granted {
     pub answer: Answer,
     pub benches: [Bench; MOST_BENCHES],

@@ -23,7 +23,7 @@ const KEY_ROOM: usize = 2049;
 const HINT_ROOM: usize = 1024;
 
 // What a text is: right but for the room that its body takes, or why it is turned down.
-#[derive(Drop)]
+#[derive(Clone, Copy)]
 pub(crate) enum Outcome {
     Malformed,
     StateOutOfRange,

@@ -19,7 +19,7 @@ ghost use Rattle.aut.specs.Converting.{reported_conversion};
 use sheet::Refusal;
 
 // What the converter answers: the length of the plan body that it wrote, or why it turned its input down.
-#[derive(Drop)]
+#[derive(Clone, Copy)]
 pub enum Converted {
     Wrote(usize),
     Malformed,

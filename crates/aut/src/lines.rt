@@ -5,7 +5,7 @@ ghost use Rattle.aut.specs.Internal.Places.{LineParts, FirstParts};
 use crate::scanning::{after_byte, after_label, after_numeral, after_space};
 
 // Where the parts of a line begin and end, and where the next line begins.
-#[derive(Drop)]
+#[derive(Clone, Copy)]
 pub(crate) struct LinePlaces {
     pub from: usize,
     pub comma: usize,
@@ -38,7 +38,7 @@ pub(crate) fn line_at(text: &[u8], at: usize) -> LinePlaces
 }
 
 // Where the numbers of the first line begin, where the last two end, and where the lines after it begin.
-#[derive(Drop)]
+#[derive(Clone, Copy)]
 pub(crate) struct FirstPlaces {
     pub first: usize,
     pub transitions: usize,

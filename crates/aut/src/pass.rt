@@ -23,14 +23,14 @@ pub(crate) const MOST_KEYS: usize = 2048;
 const LARGEST_BYTE: usize = 255;
 
 // How many labels and keys are held.
-#[derive(Drop)]
+#[derive(Clone, Copy)]
 pub(crate) struct Counts {
     pub labels: usize,
     pub keys: usize,
 }
 
 // What the pass finds out: where it ended, how many lines there are, whether their states are below the stated number, and what it holds of them.
-#[derive(Drop)]
+#[derive(Clone, Copy)]
 pub(crate) struct Pass {
     pub end: usize,
     pub lines: usize,

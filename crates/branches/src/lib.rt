@@ -16,7 +16,7 @@ ghost use Rattle.branches.specs.Committing.{reported_commit};
 use sheet::Refusal;
 
 // How many transitions stand before the new one, which is its number; the length of the new file; and the tag of the old one.
-#[derive(Drop)]
+#[derive(Clone, Copy)]
 pub struct Proposal {
     pub insertion: u16,
     pub length: usize,
@@ -24,7 +24,7 @@ pub struct Proposal {
 }
 
 // What propose answers.
-#[derive(Drop)]
+#[derive(Clone, Copy)]
 pub enum Proposed {
     Offered(Proposal),
     BranchUnfit,
@@ -75,7 +75,7 @@ impl Proposed {
 }
 
 // What commit answers: the length of the new sheet, or why it wrote none.
-#[derive(Drop)]
+#[derive(Clone, Copy)]
 pub enum Committed {
     Wrote(usize),
     BranchUnfit,

@@ -1,11 +1,12 @@
 // Table 1 over sheets: which action formulas an action meets, and the guard check.
+#![tactic(auto)]
 pub mod guardedness;
 pub mod meeting;
 
 use sheet::Refusal;
 
 // What the guard check answers.
-#[derive(Drop)]
+#[derive(Clone, Copy)]
 pub enum Guard {
     Answered(bool),
     Refused(Refusal),

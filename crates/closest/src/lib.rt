@@ -14,7 +14,7 @@ use sheet::{Refusal, State};
 
 // Where the rule fails first, or that it holds everywhere, and how many cells were filled; or why the call was turned down, of which a wrong count is one
 // reason.
-#[derive(Drop)]
+#[derive(Clone, Copy)]
 pub enum Closest {
     Everywhere {
         visits: usize,
@@ -127,7 +127,7 @@ impl Closest {
 }
 
 // A shortest way to a state, or that none leads there; or why the call was turned down.
-#[derive(Drop)]
+#[derive(Clone, Copy)]
 pub enum Traced {
     Way { steps: u8 },
     Unreachable,

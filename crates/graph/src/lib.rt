@@ -1,4 +1,5 @@
 // A plan as a graph: the search for loops that can be reached from a state, or from several.
+#![tactic(auto)]
 pub mod loops;
 pub mod searching;
 
@@ -19,7 +20,7 @@ pub const FIRSTS_AT: usize = 16;
 pub const ACTIONS_AT: usize = 160;
 
 // Whether a loop can be reached from a state.
-#[derive(Drop)]
+#[derive(Clone, Copy)]
 pub enum LoopSearch {
     Free,
     Found,

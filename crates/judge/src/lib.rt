@@ -34,14 +34,14 @@ const MOST_BINDERS: usize = 6;
 pub const LARGEST_TABLE: usize = MOST_STATES * MOST_NODES * (MOST_BINDERS + 1) + COUNT_BYTES;
 
 // What clearing answers.
-#[derive(Drop)]
+#[derive(Clone, Copy)]
 pub enum Cleared {
     Done,
     Refused(Refusal),
 }
 
 // What a query answers. The count is wrong where it differs from the number of filled cells.
-#[derive(Drop)]
+#[derive(Clone, Copy)]
 pub enum Queried {
     Judged { verdict: bool, visits: usize },
     WrongCount,
@@ -101,7 +101,7 @@ impl Queried {
 }
 
 // What queries in turn answer: how many states come before the first whose verdict is false, and the visits.
-#[derive(Drop)]
+#[derive(Clone, Copy)]
 pub enum InTurn {
     Judged { passed: usize, visits: usize },
     WrongCount,
@@ -161,7 +161,7 @@ impl InTurn {
 }
 
 // What reading the count of a table answers.
-#[derive(Drop)]
+#[derive(Clone, Copy)]
 pub enum Counted {
     Stored(u32),
     Refused(Refusal),
@@ -200,7 +200,7 @@ impl Counted {
 }
 
 // What the audit of a filled table answers: yes or no.
-#[derive(Drop)]
+#[derive(Clone, Copy)]
 pub enum Audited {
     Answered(bool),
     Refused(Refusal),
@@ -239,21 +239,21 @@ impl Audited {
 }
 
 // What a pass over cells tells: a byte over 2, or how many are filled.
-#[derive(Drop)]
+#[derive(Clone, Copy)]
 pub(crate) enum Scanned {
     ByteOver,
     Filled(usize),
 }
 
 // What a pass over a block of fewer than 256 cells tells. over is 0 where no byte is over 2, and then filled is how many are filled.
-#[derive(Drop)]
+#[derive(Clone, Copy)]
 pub(crate) struct Block {
     over: u8,
     filled: u8,
 }
 
 // What a walk along a list of states tells: how many verdicts were true up to the first that was not, and the visits.
-#[derive(Drop)]
+#[derive(Clone, Copy)]
 pub(crate) struct Walked {
     passed: usize,
     visits: usize,

@@ -28,14 +28,14 @@ pub(crate) type Body = [u8; LONGEST_BODY];
 pub(crate) type Places = [u8; LONGEST_PATTERN];
 
 // How much of the rule is made: its nodes and binders so far; or it becomes larger than a rule may be.
-#[derive(Drop)]
+#[derive(Clone, Copy)]
 pub(crate) enum Progress {
     Made(u8, u8),
     Exceeded,
 }
 
 // What the translation answers: the length of the rule body that it wrote, or why it turned its input down.
-#[derive(Drop)]
+#[derive(Clone, Copy)]
 pub enum Translated {
     Wrote(usize),
     Malformed,

@@ -13,7 +13,7 @@ use sheet::Refusal;
 
 // Which recording the shortest beginning on which the rule fails is of, and how many actions it has; or that there is none; or why the call was turned
 // down.
-#[derive(Drop)]
+#[derive(Clone, Copy)]
 pub enum Answer {
     FirstFails(usize),
     SecondFails(usize),
@@ -54,7 +54,7 @@ impl Answer {
 }
 
 // The answer, and the part of one of the two recordings that goes with it.
-#[derive(Drop)]
+#[derive(Clone, Copy)]
 pub struct Shortest<'a> {
     pub answer: Answer,
     pub part: &'a [u8],

@@ -9,7 +9,7 @@ mod table1;
 use sheet::Refusal;
 
 // What the reference judge answers: a bit for each state, or its refusal.
-#[derive(Drop)]
+#[derive(Clone, Copy)]
 pub enum Reference {
     Word(u64),
     Refused(Refusal),

@@ -15,7 +15,7 @@ pub const MOST_QUERIES: usize = 64;
 pub const LEAST_OUTPUT: usize = 1036;
 
 // What a report answers: the length of its text, or why it was turned down.
-#[derive(Drop)]
+#[derive(Clone, Copy)]
 pub enum Report {
     Wrote(usize),
     TooManyQueries,
@@ -58,7 +58,7 @@ impl Report {
 }
 
 // The running tally, the visits of the queries so far, and beside it the length of their lines, which is where the next one goes.
-#[derive(Drop)]
+#[derive(Clone, Copy)]
 pub(crate) struct Tally {
     pub(crate) visits: usize,
     pub(crate) length: usize,

@@ -1,1 +1,3 @@
+#![tactic(auto)]
+
 // Theory only: rows, solution, need, tables and lists of queries, for any type of cell.

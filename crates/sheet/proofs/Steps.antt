@@ -6,6 +6,5 @@ pub mod Nodes
 pub mod Subtrees
 pub mod Sheet
 pub mod Taken
-pub mod Readers
 pub mod Writing
 pub mod Bodies

@@ -6,7 +6,7 @@ use mathlib.Core.List.{List, Memᴰ}
 use mathlib.Core.Logic.{◌⊎◌, inl, inr}
 use native.Mathlib.Omega.{arith}
 use native.Mathlib.Decide.{dec_lt}
-use Rattle.sheet.specs.Plan.{state_count, action_count, transition_count, origin, target}
+use Rattle.sheet.specs.Plan.{state_count, action_count, transition_count}
 use Rattle.sheet.specs.TransitionSystem.{LabelledTransition, transition_of, transitions_from, plan_of, PlanInRange}
 
 -- transition t stands in the body, at one of the numbers from first up to end

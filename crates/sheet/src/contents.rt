@@ -7,14 +7,14 @@ use crate::decode::{byte_at, narrow_at, slice_of, word_at};
 use crate::{Check, HEAD_LENGTH, LONGEST, Refusal};
 
 // The sheet that is lent, and a place in it.
-#[derive(Drop)]
+#[derive(Clone, Copy)]
 pub(crate) struct Reader<'a> {
     pub(crate) sheet: &'a [u8],
     pub(crate) at: usize,
 }
 
 // An entry of the table of contents.
-#[derive(Drop)]
+#[derive(Clone, Copy)]
 pub(crate) struct Entry {
     pub(crate) kind: u8,
     pub(crate) offset: u16,

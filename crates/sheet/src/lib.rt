@@ -1,4 +1,6 @@
 // The sheet: a plan and a rule in one file. Reader, writer and the functions that read a sheet's fields.
+#![tactic(auto)]
+
 ghost use Rattle.std.specs.Prelude.{◌≡◌};
 ghost use Rattle.sheet.specs.Refusals.{number_of, place_of};
 
@@ -18,20 +20,20 @@ pub const HEAD_LENGTH: usize = 17;
 pub const LONGEST: usize = 6455;
 
 // Numbers of states, nodes, actions and variables: one never stands for another.
-#[derive(Drop)]
+#[derive(Clone, Copy)]
 pub struct State(pub u8);
 
-#[derive(Drop)]
+#[derive(Clone, Copy)]
 pub struct Node(pub u8);
 
-#[derive(Drop)]
+#[derive(Clone, Copy)]
 pub struct Action(pub u8);
 
-#[derive(Drop)]
+#[derive(Clone, Copy)]
 pub struct Variable(pub u8);
 
 // A transition of the plan.
-#[derive(Drop)]
+#[derive(Clone, Copy)]
 pub struct Transition {
     pub from: State,
     pub action: Action,
@@ -39,7 +41,7 @@ pub struct Transition {
 }
 
 // The three bytes of an action entry or of a node.
-#[derive(Drop)]
+#[derive(Clone, Copy)]
 pub struct Fields {
     pub kind: u8,
     pub x: u8,
@@ -47,7 +49,7 @@ pub struct Fields {
 }
 
 // Why a call turns its input down; a case that has a place holds it.
-#[derive(Drop)]
+#[derive(Clone, Copy)]
 pub enum Refusal {
     TooShort,
     Heading,
@@ -118,28 +120,28 @@ impl Refusal {
 }
 
 // What checking the input, or a body of it, gives.
-#[derive(Drop)]
+#[derive(Clone, Copy)]
 pub enum Check {
     Passed,
     Failed(Refusal),
 }
 
 // The subtree of a node, in preorder: the place after it, which may be no node and so is a plain number, or the first faulty node met in it.
-#[derive(Drop)]
+#[derive(Clone, Copy)]
 pub(crate) enum Extent {
     Ends(usize),
     Faulty(Node),
 }
 
 // Where a body lies in its sheet.
-#[derive(Drop)]
+#[derive(Clone, Copy)]
 pub struct Span {
     pub offset: usize,
     pub length: usize,
 }
 
 // Where the three bodies lie.
-#[derive(Drop)]
+#[derive(Clone, Copy)]
 pub struct Bodies {
     pub plan: Span,
     pub actions: Span,
@@ -147,14 +149,14 @@ pub struct Bodies {
 }
 
 // What the reader answers.
-#[derive(Drop)]
+#[derive(Clone, Copy)]
 pub enum Read {
     Accepted(Bodies),
     Refused(Refusal),
 }
 
 // What the writer answers: the length of the sheet that it wrote.
-#[derive(Drop)]
+#[derive(Clone, Copy)]
 pub enum Written {
     Wrote(usize),
     Refused(Refusal),

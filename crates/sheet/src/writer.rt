@@ -43,7 +43,7 @@ fn copy_at(out: &mut [u8], at: usize, src: &[u8])
     requires { at + length src.now ≤ length out.old }
     ensures { out.new ≡ paste out.old at src.now (length src.now) }
 {
-    bytes::copy(src, &mut out[at..at + src.len()]);
+    out[at..at + src.len()].copy_from_slice(src);
 }
 
 // The sheet of three bodies, at the front of an output that has room for it.

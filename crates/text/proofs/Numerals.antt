@@ -107,7 +107,7 @@ unfolding all_digits decimal_from
 next_digits {ds} [] r p q = rw (append-nil ds) r
 next_digits {ds} (b ∷ es) r p q =
     let k = parts (is_digit b) (all_digits es) q in
-    rw (append_assoc ds (b ∷ []) es) at (next_digits es (next_digit b r p k.0) (omega arith) k.1)
+    rw (append_assoc ds (b ∷ []) es) at (next_digits {ds = ds ++ b ∷ []} es (next_digit b r p k.0) (omega arith) k.1)
 
 pub accepted_decimal : (w : List ℕ) → is_decimal w ≡ true → Decimal w (decimal_from 0 w)
 unfolding all_digits decimal_from

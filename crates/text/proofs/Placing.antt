@@ -1,13 +1,13 @@
 -- Texts put into a buffer, one after another.
 use Prim.Native.Nat.{ℕ, ◌+◌, ◌-◌, ◌≤◌, ◌<◌}
 use mathlib.Core.Path.{◌≡◌, sym, ap, ap₂, subst, ◌∙◌}
-use mathlib.Core.List.{List, ◌++◌, append_assoc, append-nil}
+use mathlib.Core.List.{List, ◌++◌, append_assoc}
 use native.Mathlib.Omega.{arith}
 use native.Mathlib.Decide.{dec_le}
 use borrow.Author.Tests.{le-leb, lt-leb}
-use lib.ListN.{length, take, drop, length-append, drop_of_length-le}
+use lib.ListN.{length, take, drop, length-append}
 use lib.Seq.{take_at, drop_at, drop-drop, length-take-le, take-length, length-paste}
-use borrow.Rule.Slice.PartMut.{mid_of, put_mid, mid_len, Post-is}
+use borrow.Rule.Slice.PartMut.{put_mid, Post-is}
 use Rattle.text.specs.Placing.{buffer_after, place_after, starting_with, Puts}
 
 module _ (text : List ℕ) (at : ℕ) (out : List ℕ) where
@@ -41,12 +41,8 @@ module _ (text : List ℕ) (at : ℕ) (out : List ℕ) where
   ]
 
   -- the text copied into the part of the buffer where it is to stand
-  pub copied : at + length text ≤ length out → {part : List ℕ} → part ≡ take (length text) text ++ drop (length text) (mid_of at (at + length text - at) out)
-      → put_mid at (at + length text - at) out part ≡ buffer_after text at out
-  copied h {part} e =
-      let short : length (mid_of at (at + length text - at) out) ≤ length text = omega (arith, mid_len at (at + length text) out h) in
-      let whole : part ≡ text = e ∙ (ap (λ (l : List ℕ). l ++ drop (length text) (mid_of at (at + length text - at) out)) (take-length text)
-      ∙ (ap (λ (l : List ℕ). text ++ l) (drop_of_length-le _ short) ∙ append-nil text)) in
+  pub copied : at + length text ≤ length out → {part : List ℕ} → part ≡ text → put_mid at (at + length text - at) out part ≡ buffer_after text at out
+  copied h {part} whole =
       ap (λ (l : List ℕ). put_mid at (at + length text - at) out l) whole
       ∙ (ap (λ (l : List ℕ). take at out ++ (text ++ l)) (Post-is at (at + length text) out (omega arith))
       ∙ (sym (append_assoc (take at out) text (drop (at + length text) out)) ∙ sym (buffer_fitting h)))

@@ -1,6 +1,8 @@
 // Texts put together in a buffer: a text, a number in decimal, `true` or `false`, the line of a refusal; and whether two texts are the same. Each `put`
 // function puts its text at a place of the buffer and answers the place after it. Where the text does not fit it puts nothing and answers a place past
 // the end, where nothing fits any more: so a line of several texts is put by one call after another, and only the last place is tested.
+#![tactic(auto)]
+
 ghost use Rattle.std.specs.Prelude.{◌≡◌};
 ghost use Rattle.text.specs.Comparing.{same_text};
 ghost use Rattle.text.specs.Decimal.{decimal_of};
@@ -25,7 +27,7 @@ pub fn put(text: &[u8], at: usize, out: &mut [u8]) -> usize
         return size + 1;
     }
     let end = at + n;
-    bytes::copy(text, &mut out[at..end]);
+    out[at..end].copy_from_slice(text);
     end
 }
 

@@ -6,13 +6,13 @@ use crate::{input, output};
 use branches::{Committed, Proposal, Proposed};
 use sheet::{Action, State, Transition};
 
-#[derive(Drop)]
+#[derive(Clone, Copy)]
 enum Branch {
     Got(Transition),
     Ended,
 }
 
-#[derive(Drop)]
+#[derive(Clone, Copy)]
 enum Offer {
     Got(Proposal),
     Ended,

@@ -9,21 +9,21 @@ pub(crate) type Buffer = [u8; 65536];
 // How many values 16 bits have.
 const WORD_VALUES: u32 = 65536;
 
-#[derive(Drop)]
+#[derive(Clone, Copy)]
 pub(crate) enum Byte {
     Got(u8),
     Ended,
 }
 
 // A 16-bit number, or a blob by its length.
-#[derive(Drop)]
+#[derive(Clone, Copy)]
 pub(crate) enum Number {
     Got(u16),
     Ended,
 }
 
 // A 32-bit number.
-#[derive(Drop)]
+#[derive(Clone, Copy)]
 pub(crate) enum Wide {
     Got(u32),
     Ended,

@@ -30,8 +30,11 @@ mem_append (x ∷ l) m d n = go (Memᴰ.cases_cons n) (mem_append l m d)
         deeper (inr k) = inr k
 
 pub append_left : {C : Type 0} (l m : List C) (d : C) → Memᴰ d l → Memᴰ d (l ++ m)
-append_left l m d (Memᴰ.head {xs = k} e) = Memᴰ.head e
-append_left l m d (Memᴰ.tail {xs = k} n) = Memᴰ.tail (append_left k m d n)
+append_left {C} l m d n = along l n
+  where
+    along : (k : List C) → Memᴰ d k → Memᴰ d (k ++ m)
+    along k (Memᴰ.head {xs = j} e) = Memᴰ.head e
+    along k (Memᴰ.tail {xs = j} n') = Memᴰ.tail (along j n')
 
 pub append_right : {C : Type 0} (l m : List C) (d : C) → Memᴰ d m → Memᴰ d (l ++ m)
 append_right [] m d n = n

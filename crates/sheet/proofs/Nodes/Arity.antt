@@ -60,12 +60,15 @@ module _ {entries : ℕ} {r : List ℕ} where
   forest_within (Forest.more p f) = omega (arith, subtree_after p, forest_within f)
 
   -- the nodes from n up to e are one number of subtrees only
+  forest_alike : {count count' n n' e e' : ℕ} → Forest entries r count n e → Forest entries r count' n' e' → n ≡ n' → e ≡ e' → count ≡ count'
+  forest_alike Forest.none Forest.none a b = refl
+  forest_alike Forest.none (Forest.more q g) a b = absurd (omega (arith, subtree_after q, forest_within g))
+  forest_alike (Forest.more p f) Forest.none a b = absurd (omega (arith, subtree_after p, forest_within f))
+  forest_alike (Forest.more {m = i} p f) (Forest.more q g) a b =
+      ap suc (forest_alike f g (subtree_one (subst (λ (m : ℕ). Subtree entries r m i) a p) q) b)
+
   forest_one : {count count' n e : ℕ} → Forest entries r count n e → Forest entries r count' n e → count ≡ count'
-  forest_one Forest.none Forest.none = refl
-  forest_one Forest.none (Forest.more q g) = absurd (omega (arith, subtree_after q, forest_within g))
-  forest_one (Forest.more p f) Forest.none = absurd (omega (arith, subtree_after p, forest_within f))
-  forest_one {e = e} (Forest.more p f) (Forest.more {count = c} q g) =
-      ap suc (forest_one f (subst (λ (m : ℕ). Forest entries r c m e) (subtree_one q p) g))
+  forest_one f g = forest_alike f g refl refl
 
   recount : {count count' n e : ℕ} → count ≡ count' → Forest entries r count n e → Forest entries r count' n e
   recount {n = n} {e = e} q f = subst (λ (c : ℕ). Forest entries r c n e) q f

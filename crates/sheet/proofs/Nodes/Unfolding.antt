@@ -6,7 +6,7 @@ use mathlib.Core.Bool.{Bool, true, false, ◌&&◌}
 use mathlib.Core.List.{List}
 use mathlib.Core.Logic.{◌↔◌}
 use native.Mathlib.Omega.{arith}
-use lib.Dec.{eqb, ltb}
+use lib.Dec.{ltb}
 use Rattle.sheet.specs.Bytes.{pick}
 use Rattle.sheet.specs.Rule.{node_count, node_kind, node_x, node_y, Shape, shape_of, leaf, pair, modal, variable, binder, unknown}
 use Rattle.sheet.specs.Rule.{child_is, fault_at, second, course, extent, first_fault, syntax_fault}

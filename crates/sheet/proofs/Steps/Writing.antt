@@ -1,11 +1,11 @@
 -- What the writer's code shows: four copies put the sheet at the front of the output, and each answer is the one that the checks give.
 use Prim.Native.Nat.{ℕ, ◌+◌, ◌-◌, ◌<◌, ◌≤◌}
 use mathlib.Core.Path.{◌≡◌, refl, sym, ap, ◌∙◌}
-use mathlib.Core.List.{List, [], ◌++◌, append_assoc, append-nil}
+use mathlib.Core.List.{List, [], ◌++◌, append_assoc}
 use native.Mathlib.Omega.{arith}
-use lib.ListN.{length, take, drop, length-append, drop_of_length-le}
+use lib.ListN.{length, take, drop, length-append}
 use lib.Seq.{paste, take_at, drop-drop, take-length}
-use borrow.Rule.Slice.PartMut.{mid_of, put_mid, mid_len, Post-is}
+use borrow.Rule.Slice.PartMut.{put_mid, Post-is}
 use borrow.Author.Tests.{le-leb, lt-leb}
 use Rattle.sheet.specs.Reading.{bodies_check}
 use Rattle.sheet.specs.Writing.{head, sheet_of, sheet_length, write_check, written_of, reported_write, output_after}
@@ -20,13 +20,10 @@ use Rattle.sheet.proofs.Acceptance.Sheet.{BodyLengths, body_lengths, bodies_iff}
 use Rattle.sheet.proofs.Roundtrip.RoundTrip.{written_length}
 
 -- the output once the part of it that was lent for a copy is back
-pub copied_part : (out src last : List ℕ) (at : ℕ) → at + length src ≤ length out → last ≡ take (length src) src ++ drop (length src) (mid_of at (at + length src - at) out)
-    → put_mid at (at + length src - at) out last ≡ paste out at src (length src)
+pub copied_part : (out src last : List ℕ) (at : ℕ) → at + length src ≤ length out → last ≡ src → put_mid at (at + length src - at) out last ≡ paste out at src (length src)
 copied_part out src last at h q =
     let end : ℕ = at + length src in
-    let part : List ℕ = mid_of at (end - at) out in
-    let whole : drop (length src) part ≡ [] = drop_of_length-le part {i = length src} (omega (arith, mid_len at end out h)) in
-    let copy : last ≡ take (length src) src = q ∙ (ap (λ (rest : List ℕ). take (length src) src ++ rest) whole ∙ append-nil (take (length src) src)) in
+    let copy : last ≡ take (length src) src = q ∙ sym (take-length src) in
     (λ i. take at out ++ (copy i ++ Post-is at end out (omega arith) i)) ∙ sym (append_assoc (take at out) (take (length src) src) (drop end out))
 
 -- a copy right after what has been written so far

@@ -1,0 +1,19 @@
+-- `calculus::guardedness::guard` meets its contract.
+use borrow.Author.Rules.{rules}
+use mathlib.Core.Path.{sym, ap, ◌∙◌}
+use Rattle.calculus.specs.GuardCheck.{reported_guard}
+use Rattle.calculus.proofs.Definition2.GuardSteps.{guard_start, guard_refused, guard_answered}
+use Rattle.calculus.proofs.guardedness.guard.Goals as goal
+
+pub guarded_since-requires : goal.guarded_since-requires
+guarded_since-requires c = guard_start _ (sym c.check-checked.ensures.value ∙ c.in-Passed.is) _ c.rule_body.ensures
+
+pub returns-in-Failed : goal.returns-in-Failed
+returns-in-Failed c =
+    let e = guard_refused _ _ (sym c.check-checked.ensures.value ∙ c.in-Failed.is) in
+    (e, ap reported_guard e)
+
+pub returns-in-Passed : goal.returns-in-Passed
+returns-in-Passed c =
+    let e = guard_answered _ (sym c.check-checked.ensures.value ∙ c.in-Passed.is) _ c.rule_body.ensures _ c.guarded_since.ensures in
+    (e, ap reported_guard e)
