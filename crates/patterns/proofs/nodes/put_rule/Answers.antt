@@ -8,13 +8,13 @@ use Rattle.patterns.proofs.Steps.Copies.{copy_start, copy_more, copy_nodes_excee
 use Rattle.patterns.proofs.nodes.put_rule.Goals as goal
 
 pub overflow_sub-n : goal.overflow_sub-n
-overflow_sub-n c = c.requires.few_nodes
+overflow_sub-n c = omega (arith, c.requires.few_nodes)
 
 pub returns-then-n-count : goal.returns-then-n-count
 returns-then-n-count c = Progressed.exceeded (copy_nodes_exceeded c.requires (omega (arith, c.node_count-count.ensures)))
 
 pub overflow_sub-b : goal.overflow_sub-b
-overflow_sub-b c = c.requires.few_binders
+overflow_sub-b c = omega (arith, c.requires.few_binders)
 
 pub returns-then-b-bound : goal.returns-then-b-bound
 returns-then-b-bound c = Progressed.exceeded (copy_binders_exceeded c.requires (omega (arith, c.binder_count-bound.ensures)))
