@@ -1,5 +1,5 @@
 -- What is needed for a cell, and for the queries of a list of states, by the place of its byte.
-use Rattle.std.proofs.Common.{◌≡◌, ℕ, Bool, true, false, ◌⊎◌, ◌↔◌, List, [], ◌∷◌, map, sym, refl, subst, inl, inr, true≢false}
+use Rattle.std.proofs.Common.{◌≡◌, ℕ, Bool, true, ◌⊎◌, ◌↔◌, List, [], ◌∷◌, map, sym, refl, subst, inl, inr, true≢false}
 use mathlib.Core.List.Memᴰ
 use mathlib.Core.List.{Memᴰ}
 use Rattle.sheet.specs.Contents.{rule_body}

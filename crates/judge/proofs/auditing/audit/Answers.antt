@@ -1,5 +1,5 @@
 -- `judge::auditing::audit` meets its contract.
-use Rattle.std.proofs.Common.{sym, ◌∙◌, rules}
+use Rattle.std.proofs.Common.{sym, ◌∙◌}
 use Rattle.judge.proofs.Steps.AuditAnswers.{audit_unread}
 use Rattle.judge.proofs.auditing.audit.Goals as goal
 

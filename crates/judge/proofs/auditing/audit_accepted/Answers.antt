@@ -1,5 +1,5 @@
 -- `judge::auditing::audit_accepted` meets its contract.
-use Rattle.std.proofs.Common.{arith, rules}
+use Rattle.std.proofs.Common.{arith}
 use Rattle.judge.proofs.Steps.AuditAnswers.{audit_short}
 use Rattle.judge.proofs.auditing.audit_accepted.Goals as goal
 

@@ -1,5 +1,5 @@
 -- `judge::auditing::audit_prepared` meets its contract.
-use Rattle.std.proofs.Common.{sym, ap, ◌∙◌, rules}
+use Rattle.std.proofs.Common.{sym, ap, ◌∙◌}
 use Rattle.judge.specs.StoredCount.{number_at}
 use Rattle.judge.proofs.Steps.AuditAnswers.{audit_miscounted, audit_passing}
 use Rattle.judge.proofs.auditing.audit_prepared.Goals as goal

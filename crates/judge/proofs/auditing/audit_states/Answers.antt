@@ -1,6 +1,5 @@
 -- `judge::auditing::audit_states` meets its contract.
-use Rattle.std.proofs.Common.{◌≡◌, ◌*◌, sym, refl, ap, ◌∙◌, ap₂, arith, length-take-le, rules}
-use borrow.Author.Tests.{not-true, not-false}
+use Rattle.std.proofs.Common.{◌≡◌, ◌*◌, sym, refl, ap, ◌∙◌, ap₂, arith, length-take-le}
 use Rattle.sheet.specs.Contents.{plan_body, rule_body}
 use Rattle.sheet.specs.Plan.{state_count}
 use Rattle.sheet.specs.Rule.{node_count}

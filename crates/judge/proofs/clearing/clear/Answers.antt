@@ -1,5 +1,5 @@
 -- `judge::clearing::clear` meets its contract.
-use Rattle.std.proofs.Common.{ℕ, ◌++◌, drop, replicate, sym, ap, ◌∙◌, arith, rules}
+use Rattle.std.proofs.Common.{ℕ, ◌++◌, drop, replicate, sym, ap, ◌∙◌, arith}
 use Rattle.judge.specs.Cells.{table_bytes_for}
 use Rattle.judge.proofs.Steps.ClearSteps.{clears_refused, clears_short, clears_done}
 use Rattle.judge.proofs.clearing.clear.Goals as goal

@@ -1,5 +1,5 @@
 -- `judge::consistency::mark_allowed` meets its contract.
-use Rattle.std.proofs.Common.{arith, rules}
+use Rattle.std.proofs.Common.{arith}
 use Rattle.judge.proofs.Steps.AuditCells.{told_zero, told_above, told_not}
 use Rattle.judge.proofs.consistency.mark_allowed.Goals as goal
 

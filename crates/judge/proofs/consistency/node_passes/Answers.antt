@@ -1,12 +1,10 @@
-use Rattle.std.proofs.Common.{◌≡◌, ℕ, ◌+◌, ◌-◌, ◌<◌, ◌≤◌, not, get_or, sym, refl, ap, ◌∙◌, arith, rules}
-use borrow.Author.Tests.{not-true, not-false}
-use Rattle.sheet.specs.Bytes.{lowest}
+use Rattle.std.proofs.Common.{◌≡◌, ℕ, ◌+◌, ◌<◌, ◌≤◌, not, get_or, sym, refl, ap, ◌∙◌, arith}
 use Rattle.sheet.specs.Contents.{rule_body}
-use Rattle.sheet.proofs.Checks.Seeking.{Seeking, seek_start, seek_next}
+use Rattle.sheet.proofs.Checks.Seeking.{seek_start, seek_next}
 use Rattle.sheet.proofs.Acceptance.Parts.{rule_kept}
 use Rattle.judge.specs.Cells.{cell, marks}
 use Rattle.judge.specs.Internal.Auditing.{cell_passes, CellRequires}
-use Rattle.judge.proofs.Steps.AuditCells.{every_fails, every_passes, marks_told, places_told, node_told, cell_room, cell_few, cell_asked, passes_empty, ShownOf, shown_on}
+use Rattle.judge.proofs.Steps.AuditCells.{every_fails, every_passes, marks_told, places_told, node_told, cell_room, cell_few, cell_asked, passes_empty, shown_on}
 use Rattle.judge.proofs.consistency.node_passes.Goals as goal
 use Rattle.judge.proofs.consistency.node_passes.Goals.{After-wide, At-loop-m}
 

@@ -1,5 +1,5 @@
 -- `judge::consistency::row_follows` meets its contract: the row by the kind of the node.
-use Rattle.std.proofs.Common.{◌≡◌, ℕ, ◌<◌, ◌≤◌, sym, ap, ◌∙◌, arith, rules}
+use Rattle.std.proofs.Common.{◌≡◌, ℕ, ◌<◌, ◌≤◌, sym, ap, ◌∙◌, arith}
 use Rattle.judge.specs.Cells.{cell, opened}
 use Rattle.judge.specs.Internal.Deciding.{DecideRequires}
 use Rattle.judge.proofs.Steps.DecideSteps.{kind_at}

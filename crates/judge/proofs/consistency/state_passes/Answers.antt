@@ -1,9 +1,7 @@
-use Rattle.std.proofs.Common.{◌≡◌, ◌-◌, not, sym, ap, ◌∙◌, arith, rules}
-use borrow.Author.Tests.{not-true}
-use Rattle.sheet.specs.Bytes.{lowest}
+use Rattle.std.proofs.Common.{◌≡◌, not, sym, ap, ◌∙◌, arith}
 use Rattle.sheet.specs.Contents.{rule_body}
 use Rattle.sheet.specs.Rule.{node_count}
-use Rattle.sheet.proofs.Checks.Seeking.{Seeking, seek_start, seek_next}
+use Rattle.sheet.proofs.Checks.Seeking.{seek_start, seek_next}
 use Rattle.sheet.proofs.Acceptance.Parts.{few_nodes}
 use Rattle.judge.specs.Internal.Auditing.{node_passes}
 use Rattle.judge.proofs.Steps.AuditCells.{every_fails, every_passes}

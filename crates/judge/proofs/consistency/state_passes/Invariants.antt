@@ -1,13 +1,10 @@
 -- `judge::consistency::state_passes` meets its contract. Of the loop: what is left of the search for a node with a cell that does not pass.
-use Rattle.std.proofs.Common.{◌≡◌, ◌-◌, not, sym, ap, ◌∙◌, arith, rules}
-use borrow.Author.Tests.{not-true}
+use Rattle.std.proofs.Common.{◌-◌, not}
 use Rattle.sheet.specs.Bytes.{lowest}
 use Rattle.sheet.specs.Contents.{rule_body}
 use Rattle.sheet.specs.Rule.{node_count}
-use Rattle.sheet.proofs.Checks.Seeking.{Seeking, seek_start, seek_next}
-use Rattle.sheet.proofs.Acceptance.Parts.{few_nodes}
+use Rattle.sheet.proofs.Checks.Seeking.{Seeking}
 use Rattle.judge.specs.Internal.Auditing.{node_passes}
-use Rattle.judge.proofs.Steps.AuditCells.{every_fails, every_passes}
 use Rattle.judge.proofs.consistency.state_passes.Given as goal
 
 abbrev pub invariant-loop-n : goal.invariant-loop-n

@@ -1,6 +1,6 @@
-use Rattle.std.proofs.Common.{◌≡◌, ◌-◌, sym, ◌∙◌, arith, rules}
+use Rattle.std.proofs.Common.{◌≡◌, sym, ◌∙◌, arith}
 use Rattle.judge.proofs.Steps.Turns.{meets_at, modal_node_at, state_small, state_at, transition_at_lem, met}
-use Rattle.judge.proofs.Steps.AuditRows.{SuccessorsLeft, successors_start, child_places, child_inside, child_has, successors_found, successors_on, successors_past, successors_end}
+use Rattle.judge.proofs.Steps.AuditRows.{successors_start, child_places, child_inside, child_has, successors_found, successors_on, successors_past, successors_end}
 use Rattle.judge.proofs.consistency.successors_hold.Goals as goal
 use Rattle.judge.proofs.consistency.successors_hold.Goals.{After-has_bit}
 

@@ -1,7 +1,6 @@
 -- `judge::consistency::successors_hold` meets its contract. Of the loop: what is left is whether enough cells from here on are filled.
-use Rattle.std.proofs.Common.{◌≡◌, ◌-◌, sym, ◌∙◌, arith, rules}
-use Rattle.judge.proofs.Steps.Turns.{meets_at, modal_node_at, state_small, state_at, transition_at_lem, met}
-use Rattle.judge.proofs.Steps.AuditRows.{SuccessorsLeft, successors_start, child_places, child_inside, child_has, successors_found, successors_on, successors_past, successors_end}
+use Rattle.std.proofs.Common.{◌-◌}
+use Rattle.judge.proofs.Steps.AuditRows.{SuccessorsLeft}
 use Rattle.judge.proofs.consistency.successors_hold.Given as goal
 
 abbrev pub invariant-loop-i : goal.invariant-loop-i

@@ -1,9 +1,7 @@
-use Rattle.std.proofs.Common.{◌≡◌, ℕ, ◌-◌, ◌<◌, not, get_or, sym, ap, ◌∙◌, arith, rules}
-use borrow.Author.Tests.{not-true}
-use Rattle.sheet.specs.Bytes.{lowest}
+use Rattle.std.proofs.Common.{◌≡◌, ℕ, ◌<◌, not, get_or, sym, ap, ◌∙◌, arith}
 use Rattle.sheet.specs.Contents.{plan_body}
 use Rattle.sheet.specs.Plan.{state_count}
-use Rattle.sheet.proofs.Checks.Seeking.{Seeking, seek_start, seek_next}
+use Rattle.sheet.proofs.Checks.Seeking.{seek_start, seek_next}
 use Rattle.sheet.proofs.Acceptance.Parts.{few_states}
 use Rattle.judge.specs.Internal.Auditing.{state_passes}
 use Rattle.judge.proofs.Steps.AuditCells.{every_fails, every_passes, others_pass}

@@ -1,13 +1,10 @@
 -- `judge::consistency::table_passes` meets its contract. Of the loop: what is left of the search for a state with a cell that does not pass.
-use Rattle.std.proofs.Common.{◌≡◌, ℕ, ◌-◌, ◌<◌, not, get_or, sym, ap, ◌∙◌, arith, rules}
-use borrow.Author.Tests.{not-true}
+use Rattle.std.proofs.Common.{◌-◌, not}
 use Rattle.sheet.specs.Bytes.{lowest}
 use Rattle.sheet.specs.Contents.{plan_body}
 use Rattle.sheet.specs.Plan.{state_count}
-use Rattle.sheet.proofs.Checks.Seeking.{Seeking, seek_start, seek_next}
-use Rattle.sheet.proofs.Acceptance.Parts.{few_states}
+use Rattle.sheet.proofs.Checks.Seeking.{Seeking}
 use Rattle.judge.specs.Internal.Auditing.{state_passes}
-use Rattle.judge.proofs.Steps.AuditCells.{every_fails, every_passes, others_pass}
 use Rattle.judge.proofs.consistency.table_passes.Given as goal
 
 abbrev pub invariant-loop-s : goal.invariant-loop-s

@@ -1,5 +1,5 @@
 -- `judge::counting::stored_count` meets its contract.
-use Rattle.std.proofs.Common.{sym, ap, ◌∙◌, arith, rules}
+use Rattle.std.proofs.Common.{sym, ap, ◌∙◌, arith}
 use Rattle.judge.specs.StoredCount.{number_at}
 use Rattle.judge.proofs.Steps.CountSteps.{counts_refused, counts_short, counts_done}
 use Rattle.judge.proofs.counting.stored_count.Goals as goal

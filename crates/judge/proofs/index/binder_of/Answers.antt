@@ -1,5 +1,5 @@
 -- `judge::index::binder_of` meets its contract.
-use Rattle.std.proofs.Common.{ℕ, ◌+◌, get_or, ap, ◌∙◌, arith, rules}
+use Rattle.std.proofs.Common.{ℕ, ◌+◌, get_or, ap, ◌∙◌, arith}
 use Rattle.judge.specs.Internal.Index.{binders_at}
 use Rattle.judge.proofs.index.binder_of.Goals as goal
 

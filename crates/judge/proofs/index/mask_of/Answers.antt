@@ -1,5 +1,5 @@
 -- `judge::index::mask_of` meets its contract.
-use Rattle.std.proofs.Common.{ℕ, ◌+◌, get_or, ap, rules}
+use Rattle.std.proofs.Common.{ℕ, ◌+◌, get_or, ap}
 use Rattle.graph.specs.Index.{actions_at}
 use Rattle.judge.proofs.index.mask_of.Goals as goal
 

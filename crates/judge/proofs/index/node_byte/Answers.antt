@@ -1,5 +1,5 @@
 -- `judge::index::node_byte` meets its contract.
-use Rattle.std.proofs.Common.{ℕ, ◌+◌, ◌*◌, ◌∙◌, ap₂, arith, rules}
+use Rattle.std.proofs.Common.{ℕ, ◌+◌, ◌*◌, ◌∙◌, ap₂, arith}
 use Rattle.sheet.specs.Bytes.{byte}
 use Rattle.sheet.proofs.Acceptance.Parts.{rule_inside, rule_byte, offset_small}
 use Rattle.judge.proofs.index.node_byte.Goals as goal

@@ -1,5 +1,4 @@
 -- `judge::marks::is_outer` meets its contract.
-use Rattle.std.proofs.Common.{rules}
 use Rattle.judge.proofs.Steps.DecideSteps.{outer_zero, outer_later}
 use Rattle.judge.proofs.marks.is_outer.Goals as goal
 

@@ -1,5 +1,4 @@
 -- `judge::marks::opening` meets its contract.
-use Rattle.std.proofs.Common.{rules}
 use Rattle.judge.proofs.Steps.DecideSteps.{opened_first, opened_later}
 use Rattle.judge.proofs.marks.opening.Goals as goal
 

@@ -1,5 +1,4 @@
 -- `judge::packed::add_visits` meets its contract.
-use Rattle.std.proofs.Common.{rules}
 use Rattle.judge.proofs.Steps.PackedVerdicts.{visits_added}
 use Rattle.judge.proofs.packed.add_visits.Goals as goal
 

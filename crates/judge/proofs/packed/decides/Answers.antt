@@ -1,5 +1,5 @@
 -- `judge::packed::decides` meets its contract.
-use Rattle.std.proofs.Common.{Bool, ap, rules}
+use Rattle.std.proofs.Common.{Bool, ap}
 use mathlib.Core.Bool.{beq}
 use Rattle.judge.proofs.packed.decides.Goals as goal
 

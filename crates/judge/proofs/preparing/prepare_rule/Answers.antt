@@ -1,5 +1,4 @@
 -- `judge::preparing::prepare_rule` meets its contract.
-use Rattle.std.proofs.Common.{rules}
 use Rattle.judge.proofs.Steps.PrepareSteps.{binders_asked}
 use Rattle.judge.proofs.Steps.PrepareAudit.{ends_asked, rule_told}
 use Rattle.judge.proofs.preparing.prepare_rule.Goals as goal

@@ -1,6 +1,5 @@
 -- `judge::preparing::prepare_states` meets its contract.
-use Rattle.std.proofs.Common.{◌∙◌, subst, arith, rules}
-use borrow.Author.Tests.{not-true, not-false}
+use Rattle.std.proofs.Common.{◌∙◌, subst, arith}
 use Rattle.graph.specs.Explored.{ExploredAll}
 use Rattle.judge.proofs.Steps.PrepareAudit.{searched_all, states_looped, states_told}
 use Rattle.judge.proofs.preparing.prepare_states.Goals as goal

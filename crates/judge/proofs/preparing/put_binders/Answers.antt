@@ -1,7 +1,7 @@
-use Rattle.std.proofs.Common.{◌≡◌, ℕ, ◌-◌, ◌<◌, ◌≤◌, List, sym, ◌∙◌, arith, rules}
-use Rattle.sheet.specs.Rule.{node_count, binders_before, binder_count, binder_node}
+use Rattle.std.proofs.Common.{ℕ, ◌<◌, ◌≤◌, List, sym, ◌∙◌, arith}
+use Rattle.sheet.specs.Rule.{node_count, binder_count}
 use Rattle.sheet.proofs.Nodes.Binders.{binder_node_lem}
-use Rattle.judge.proofs.Steps.PrepareSteps.{Filled, filled_none, filled_more}
+use Rattle.judge.proofs.Steps.PrepareSteps.{filled_none, filled_more}
 use Rattle.judge.proofs.Steps.BinderSteps.{passed_none, passed_other, passed_within, passed_binder, binds}
 use Rattle.judge.proofs.preparing.put_binders.Invariants.{Right}
 use Rattle.judge.proofs.preparing.put_binders.Goals as goal

@@ -1,9 +1,7 @@
 -- `judge::preparing::put_binders` meets its contract. Of the loop: the places of the k binders before node n are filled.
-use Rattle.std.proofs.Common.{◌≡◌, ℕ, ◌-◌, ◌<◌, ◌≤◌, List, sym, ◌∙◌, arith, rules}
-use Rattle.sheet.specs.Rule.{node_count, binders_before, binder_count, binder_node}
-use Rattle.sheet.proofs.Nodes.Binders.{binder_node_lem}
-use Rattle.judge.proofs.Steps.PrepareSteps.{Filled, filled_none, filled_more}
-use Rattle.judge.proofs.Steps.BinderSteps.{passed_none, passed_other, passed_within, passed_binder, binds}
+use Rattle.std.proofs.Common.{◌≡◌, ℕ, ◌-◌, ◌≤◌, List}
+use Rattle.sheet.specs.Rule.{node_count, binders_before, binder_node}
+use Rattle.judge.proofs.Steps.PrepareSteps.{Filled}
 use Rattle.judge.proofs.preparing.put_binders.Given as goal
 
 abbrev pub Right : List ℕ → ℕ → ℕ → Type 0

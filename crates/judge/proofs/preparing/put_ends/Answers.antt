@@ -1,6 +1,6 @@
-use Rattle.std.proofs.Common.{◌-◌, ◌<◌, ◌≤◌, arith, rules}
+use Rattle.std.proofs.Common.{◌<◌, arith}
 use Rattle.sheet.specs.Rule.{binder_count}
-use Rattle.judge.proofs.Steps.PrepareSteps.{Filled, filled_none, filled_more}
+use Rattle.judge.proofs.Steps.PrepareSteps.{filled_none, filled_more}
 use Rattle.judge.proofs.Steps.PrepareAudit.{EndIs, one_of_six, binder_told, end_is, end_small}
 use Rattle.judge.proofs.preparing.put_ends.Goals as goal
 use Rattle.judge.proofs.preparing.put_ends.Goals.{In-loop-k}

@@ -1,8 +1,7 @@
 -- `judge::preparing::put_ends` meets its contract. Of the loop: the ends of the first k binders' subtrees are filled.
-use Rattle.std.proofs.Common.{◌-◌, ◌<◌, ◌≤◌, arith, rules}
-use Rattle.sheet.specs.Rule.{binder_count}
-use Rattle.judge.proofs.Steps.PrepareSteps.{Filled, filled_none, filled_more}
-use Rattle.judge.proofs.Steps.PrepareAudit.{EndIs, one_of_six, binder_told, end_is, end_small}
+use Rattle.std.proofs.Common.{◌-◌, ◌≤◌}
+use Rattle.judge.proofs.Steps.PrepareSteps.{Filled}
+use Rattle.judge.proofs.Steps.PrepareAudit.{EndIs}
 use Rattle.judge.proofs.preparing.put_ends.Given as goal
 
 abbrev pub invariant-loop-k : goal.invariant-loop-k

@@ -1,5 +1,5 @@
 -- `judge::preparing::put_head` meets its contract.
-use Rattle.std.proofs.Common.{ℕ, ◌+◌, length, ap, ◌∙◌, arith, rules}
+use Rattle.std.proofs.Common.{ℕ, ◌+◌, length, ap, ◌∙◌, arith}
 use Rattle.sheet.specs.Rule.{node_count, binder_count}
 use Rattle.sheet.proofs.Acceptance.Parts.{offset_is, offset_small}
 use Rattle.judge.proofs.Steps.PrepareSteps.{headed}

@@ -1,8 +1,7 @@
-use Rattle.std.proofs.Common.{◌≡◌, ℕ, ◌+◌, ◌-◌, ◌≤◌, List, get_or, set, refl, ap, ◌∙◌, subst, arith, rules}
+use Rattle.std.proofs.Common.{◌≡◌, ℕ, ◌+◌, get_or, set, refl, ap, ◌∙◌, subst, arith}
 use Rattle.graph.specs.Index.{actions_at}
-use Rattle.sheet.specs.Plan.{action_count}
 use Rattle.calculus.specs.MeetingMask.{meeting_mask}
-use Rattle.judge.proofs.Steps.PrepareSteps.{Filled, filled_none, filled_more, filled_next, SameFrom, same_from_set}
+use Rattle.judge.proofs.Steps.PrepareSteps.{Filled, filled_none, filled_more, filled_next, same_from_set}
 use Rattle.judge.proofs.preparing.put_masks.Invariants.{Right}
 use Rattle.judge.proofs.preparing.put_masks.Goals as goal
 

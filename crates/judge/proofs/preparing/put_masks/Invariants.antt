@@ -1,9 +1,9 @@
 -- `judge::preparing::put_masks` meets its contract. Of the loop: the places of the actions below a that have a 1 hold masks, those from a on are as they were.
-use Rattle.std.proofs.Common.{◌≡◌, ℕ, ◌+◌, ◌-◌, ◌≤◌, List, get_or, set, refl, ap, ◌∙◌, subst, arith, rules}
+use Rattle.std.proofs.Common.{◌≡◌, ℕ, ◌+◌, ◌-◌, ◌≤◌, List, get_or}
 use Rattle.graph.specs.Index.{actions_at}
 use Rattle.sheet.specs.Plan.{action_count}
 use Rattle.calculus.specs.MeetingMask.{meeting_mask}
-use Rattle.judge.proofs.Steps.PrepareSteps.{Filled, filled_none, filled_more, filled_next, SameFrom, same_from_set}
+use Rattle.judge.proofs.Steps.PrepareSteps.{Filled, SameFrom}
 use Rattle.judge.proofs.preparing.put_masks.Given as goal
 
 abbrev pub Right : List ℕ → List ℕ → List ℕ → ℕ → ℕ → Type 0

@@ -1,6 +1,5 @@
 -- `judge::querying::judge_accepted` meets its contract.
-use Rattle.std.proofs.Common.{sym, refl, ap, ◌∙◌, arith, rules}
-use borrow.Author.Tests.{not-true, not-false}
+use Rattle.std.proofs.Common.{sym, refl, ap, ◌∙◌, arith}
 use Rattle.sheet.specs.Plan.{state_count}
 use Rattle.judge.proofs.Steps.QueryAnswers.{answers_no_state, answers_loop}
 use Rattle.judge.proofs.querying.judge_accepted.Goals as goal

@@ -1,5 +1,5 @@
 -- `judge::querying::judge_prepared` meets its contract.
-use Rattle.std.proofs.Common.{◌≤◌, length, sym, ap, ◌∙◌, arith, length-take-le, rules}
+use Rattle.std.proofs.Common.{◌≤◌, length, sym, ap, ◌∙◌, arith, length-take-le}
 use Rattle.judge.specs.Cells.{table_bytes}
 use Rattle.judge.specs.StoredCount.{number_at}
 use Rattle.judge.proofs.Steps.QueryAnswers.{answers_short, answers_bad_byte, answers_miscounted, told_over, told_filled, count_told}

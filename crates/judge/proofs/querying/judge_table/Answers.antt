@@ -1,5 +1,5 @@
 -- `judge::querying::judge_table` meets its contract.
-use Rattle.std.proofs.Common.{sym, arith, length-take-le, rules}
+use Rattle.std.proofs.Common.{sym, arith, length-take-le}
 use Rattle.judge.proofs.Steps.QueryAnswers.{root_decidable, count_fits, answers_judged}
 use Rattle.judge.proofs.querying.judge_table.Goals as goal
 

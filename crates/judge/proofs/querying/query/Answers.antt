@@ -1,5 +1,5 @@
 -- `judge::querying::query` meets its contract.
-use Rattle.std.proofs.Common.{sym, ◌∙◌, rules}
+use Rattle.std.proofs.Common.{sym, ◌∙◌}
 use Rattle.judge.proofs.Steps.QueryAnswers.{answers_refused}
 use Rattle.judge.proofs.querying.query.Goals as goal
 

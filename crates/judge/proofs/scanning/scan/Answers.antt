@@ -1,4 +1,4 @@
-use Rattle.std.proofs.Common.{ℕ, ◌+◌, ◌-◌, length, sym, subst, arith, rules}
+use Rattle.std.proofs.Common.{ℕ, ◌+◌, ◌-◌, length, sym, subst, arith}
 use Rattle.judge.proofs.Steps.ScanSteps.{Scanning, scan_start, scan_next, scan_bound, scan_over, scan_end}
 use Rattle.judge.proofs.scanning.scan.Goals as goal
 

@@ -1,4 +1,4 @@
-use Rattle.std.proofs.Common.{◌≡◌, ℕ, ◌-◌, ◌≤◌, refl, subst, arith, rules}
+use Rattle.std.proofs.Common.{◌≡◌, ℕ, refl, subst, arith}
 use Rattle.judge.specs.Internal.Scanning.{BlockScanned}
 use Rattle.judge.proofs.Steps.ScanSteps.{block_start, block_next}
 use Rattle.judge.proofs.scanning.scan_block.Goals as goal

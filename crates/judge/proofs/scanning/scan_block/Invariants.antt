@@ -1,7 +1,6 @@
 -- `judge::scanning::scan_block` meets its contract. Of the loop: what the bytes before i tell.
-use Rattle.std.proofs.Common.{◌≡◌, ℕ, ◌-◌, ◌≤◌, refl, subst, arith, rules}
+use Rattle.std.proofs.Common.{◌-◌, ◌≤◌}
 use Rattle.judge.specs.Internal.Scanning.{BlockScanned}
-use Rattle.judge.proofs.Steps.ScanSteps.{block_start, block_next}
 use Rattle.judge.proofs.scanning.scan_block.Given as goal
 
 abbrev pub invariant-loop-i : goal.invariant-loop-i

@@ -1,5 +1,5 @@
-use Rattle.std.proofs.Common.{◌≡◌, ◌+◌, ◌-◌, ◌≤◌, sym, ◌∙◌, arith, rules}
-use Rattle.judge.proofs.Steps.StateScans.{StatesPassed, states_start, block_inside, block_few, block_over, block_total, states_none, states_some, states_end}
+use Rattle.std.proofs.Common.{◌≡◌, ◌+◌, ◌-◌, sym, ◌∙◌, arith}
+use Rattle.judge.proofs.Steps.StateScans.{states_start, block_inside, block_few, block_over, block_total, states_none, states_some, states_end}
 use Rattle.judge.proofs.scanning.scan_states.Goals as goal
 
 pub loop-s-init : goal.loop-s-init

@@ -1,6 +1,6 @@
 -- `judge::scanning::scan_states` meets its contract. Of the loop: the blocks of the states before s are passed.
-use Rattle.std.proofs.Common.{◌≡◌, ◌+◌, ◌-◌, ◌≤◌, sym, ◌∙◌, arith, rules}
-use Rattle.judge.proofs.Steps.StateScans.{StatesPassed, states_start, block_inside, block_few, block_over, block_total, states_none, states_some, states_end}
+use Rattle.std.proofs.Common.{◌-◌, ◌≤◌}
+use Rattle.judge.proofs.Steps.StateScans.{StatesPassed}
 use Rattle.judge.proofs.scanning.scan_states.Given as goal
 
 abbrev pub invariant-loop-s : goal.invariant-loop-s

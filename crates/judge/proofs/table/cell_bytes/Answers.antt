@@ -1,5 +1,4 @@
 -- `judge::table::cell_bytes` meets its contract.
-use Rattle.std.proofs.Common.{rules}
 use Rattle.judge.proofs.table.cell_bytes.Goals as goal
 
 pub returns : goal.returns

@@ -1,5 +1,5 @@
 -- `judge::table::cell_bytes_prepared` meets its contract.
-use Rattle.std.proofs.Common.{arith, rules}
+use Rattle.std.proofs.Common.{arith}
 use Rattle.sheet.proofs.Acceptance.Parts.{rule_kept}
 use Rattle.judge.proofs.table.cell_bytes_prepared.Goals as goal
 

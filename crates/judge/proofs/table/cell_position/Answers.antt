@@ -1,5 +1,5 @@
 -- `judge::table::cell_position` meets its contract.
-use Rattle.std.proofs.Common.{arith, rules}
+use Rattle.std.proofs.Common.{arith}
 use Rattle.judge.proofs.Steps.Products.{small_product, place_fits}
 use Rattle.judge.proofs.table.cell_position.Goals as goal
 

@@ -1,5 +1,5 @@
 -- `judge::table::put_number` meets its contract.
-use Rattle.std.proofs.Common.{arith, length-set, rules}
+use Rattle.std.proofs.Common.{arith, length-set}
 use Rattle.judge.proofs.Steps.CountSteps.{stores_four}
 use Rattle.judge.proofs.table.put_number.Goals as goal
 

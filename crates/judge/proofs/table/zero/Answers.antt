@@ -1,4 +1,4 @@
-use Rattle.std.proofs.Common.{◌≡◌, ℕ, ◌+◌, ◌-◌, ◌≤◌, List, ◌++◌, length, drop, set, replicate, refl, ap, ◌∙◌, arith, length-set}
+use Rattle.std.proofs.Common.{◌≡◌, ℕ, List, ◌++◌, drop, set, replicate, refl, ap, ◌∙◌, arith, length-set}
 use borrow.Author.Fill.{fill_none, fill_more}
 use Rattle.judge.proofs.table.zero.Goals as goal
 

@@ -1,6 +1,5 @@
 -- `judge::table::zero` meets its contract. Of the loop: the first i bytes are 0.
-use Rattle.std.proofs.Common.{◌≡◌, ℕ, ◌+◌, ◌-◌, ◌≤◌, List, ◌++◌, length, drop, set, replicate, refl, ap, ◌∙◌, arith, length-set}
-use borrow.Author.Fill.{fill_none, fill_more}
+use Rattle.std.proofs.Common.{◌≡◌, ◌-◌, ◌≤◌, ◌++◌, length, drop, replicate}
 use Rattle.judge.proofs.table.zero.Given as goal
 
 abbrev pub invariant-loop-i : goal.invariant-loop-i

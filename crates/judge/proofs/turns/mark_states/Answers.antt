@@ -1,5 +1,5 @@
-use Rattle.std.proofs.Common.{◌-◌, length, arith, rules}
-use Rattle.judge.proofs.Steps.TurnSteps.{MarkedTo, marks_start, marks_missing, marks_next, marks_end}
+use Rattle.std.proofs.Common.{arith}
+use Rattle.judge.proofs.Steps.TurnSteps.{marks_start, marks_missing, marks_next, marks_end}
 use Rattle.judge.proofs.turns.mark_states.Goals as goal
 
 pub loop-i-init : goal.loop-i-init

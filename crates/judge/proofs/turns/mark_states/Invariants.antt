@@ -1,6 +1,6 @@
 -- `judge::turns::mark_states` meets its contract. Of the loop: the states before i are marked.
-use Rattle.std.proofs.Common.{◌-◌, length, arith, rules}
-use Rattle.judge.proofs.Steps.TurnSteps.{MarkedTo, marks_start, marks_missing, marks_next, marks_end}
+use Rattle.std.proofs.Common.{◌-◌, length}
+use Rattle.judge.proofs.Steps.TurnSteps.{MarkedTo}
 use Rattle.judge.proofs.turns.mark_states.Given as goal
 
 abbrev pub invariant-loop-i : goal.invariant-loop-i

@@ -1,5 +1,5 @@
 -- `judge::turns::query_in_turn` meets its contract.
-use Rattle.std.proofs.Common.{sym, ◌∙◌, rules}
+use Rattle.std.proofs.Common.{sym, ◌∙◌}
 use Rattle.judge.proofs.Steps.TurnAnswers.{in_turn_unread}
 use Rattle.judge.proofs.turns.query_in_turn.Goals as goal
 

@@ -1,6 +1,5 @@
 -- `judge::turns::walk_accepted` meets its contract.
-use Rattle.std.proofs.Common.{refl, ap, ◌∙◌, rules}
-use borrow.Author.Tests.{not-true, not-false}
+use Rattle.std.proofs.Common.{refl, ap, ◌∙◌}
 use Rattle.sheet.specs.Plan.{state_count}
 use Rattle.judge.proofs.Steps.TurnAnswers.{none_marked, one_missing, list_asked, list_looped, list_free}
 use Rattle.judge.proofs.turns.walk_accepted.Goals as goal

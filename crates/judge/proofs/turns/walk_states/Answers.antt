@@ -1,7 +1,6 @@
-use Rattle.std.proofs.Common.{◌+◌, ◌-◌, length, sym, ap, ◌∙◌, arith, rules}
-use borrow.Author.Tests.{not-true, not-false}
+use Rattle.std.proofs.Common.{◌+◌, sym, ap, ◌∙◌, arith}
 use Rattle.judge.proofs.Steps.DecideSteps.{size_small}
-use Rattle.judge.proofs.Steps.TurnSteps.{QueriedTo, queried_start, state_decidable, sum_few, queried_next, queried_stop, queried_end}
+use Rattle.judge.proofs.Steps.TurnSteps.{queried_start, state_decidable, sum_few, queried_next, queried_stop, queried_end}
 use Rattle.judge.proofs.turns.walk_states.Goals as goal
 
 pub loop-i-init : goal.loop-i-init

@@ -1,8 +1,6 @@
 -- `judge::turns::walk_states` meets its contract. Of the loop: the visits so far, then the walk along the states left, are the whole walk.
-use Rattle.std.proofs.Common.{◌+◌, ◌-◌, length, sym, ap, ◌∙◌, arith, rules}
-use borrow.Author.Tests.{not-true, not-false}
-use Rattle.judge.proofs.Steps.DecideSteps.{size_small}
-use Rattle.judge.proofs.Steps.TurnSteps.{QueriedTo, queried_start, state_decidable, sum_few, queried_next, queried_stop, queried_end}
+use Rattle.std.proofs.Common.{◌-◌, length}
+use Rattle.judge.proofs.Steps.TurnSteps.{QueriedTo}
 use Rattle.judge.proofs.turns.walk_states.Given as goal
 
 abbrev pub invariant-loop-i : goal.invariant-loop-i

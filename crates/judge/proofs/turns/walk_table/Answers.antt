@@ -1,5 +1,5 @@
 -- `judge::turns::walk_table` meets its contract.
-use Rattle.std.proofs.Common.{sym, arith, length-take-le, rules}
+use Rattle.std.proofs.Common.{sym, arith, length-take-le}
 use Rattle.judge.proofs.Steps.TurnAnswers.{walk_asked, turns_fit, in_turn_judged}
 use Rattle.judge.proofs.turns.walk_table.Goals as goal
 
