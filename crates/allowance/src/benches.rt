@@ -18,7 +18,7 @@ fn query_copy(sheet: &[u8], state: State, table: &[u8], copy: &mut [u8]) -> Quer
     requires { length copy.old ≡ length table.now }
     ensures { result ≡ queried_of sheet.now state.0 table.now }
 {
-    bytes::copy(table, copy);
+    copy.copy_from_slice(table);
     query(sheet, state, copy)
 }
 

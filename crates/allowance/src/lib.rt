@@ -1,5 +1,7 @@
 // One allowance of visits for several benches: V visits are dealt to up to 8 benches on one sheet, each with a state and a table of its own; a bench that
 // is granted its whole need queries. It rests on the judge's promises alone: of a query, of a table's size and of the largest.
+#![tactic(auto)]
+
 mod benches;
 mod dealing;
 pub mod granting;

@@ -2,6 +2,8 @@
 //
 // A run is judged as a plan that is one chain, at its first state. The judge does it: the chain is put into a sheet with the actions and the rule of the
 // sheet given, and that sheet is queried on an empty table.
+#![tactic(auto)]
+
 mod chains;
 mod judging;
 pub mod searching;

@@ -118,7 +118,7 @@ fn part_for<'a>(first: &'a [u8], second: &'a [u8], answer: Answer) -> &'a [u8]
 
 // The shortest beginning, of either recording, on which the rule of the sheet fails; between equal lengths the first recording's.
 pub fn shortest_failing<'a>(sheet: &[u8], first: &'a [u8], second: &'a [u8]) -> Shortest<'a>
-    ensures { HandsBack sheet.now first.now second.now result.answer result.part.now × (result.part.ptr ≡ taken_from first.entry.ref_ptr second.entry.ref_ptr result.answer) }
+    ensures { HandsBack sheet.now first.now second.now result.answer result.part.now × (result.part.ref_ptr ≡ taken_from first.entry.ref_ptr second.entry.ref_ptr result.answer) }
 {
     let answer = find(sheet, first, second);
     Shortest {

@@ -1,10 +1,10 @@
 -- The parts of the buffer that are tables, and copies of them.
 use Prim.Native.Nat.{ℕ, ◌+◌, ◌-◌, ◌*◌, ◌<◌, ◌≤◌}
 use mathlib.Core.Path.{◌≡◌, ap, ap₂, ◌∙◌}
-use mathlib.Core.List.{List, ◌++◌, append-nil}
+use mathlib.Core.List.{List, ◌++◌}
 use native.Mathlib.Omega.{arith}
-use lib.ListN.{length, take, drop, replicate, length-take, length-replicate, drop_of_length-le}
-use lib.Seq.{take-length, length-take-le}
+use lib.ListN.{length, take, drop, replicate, length-take, length-replicate}
+use lib.Seq.{length-take-le}
 use native.Mathlib.Nat.{mul-le-mul}
 use borrow.Rule.Slice.PartMut.{put_mid, Post-is}
 use Rattle.sheet.specs.Bytes.{slice}
@@ -20,12 +20,6 @@ use Rattle.allowance.specs.Internal.Benches.{BenchesRequire}
 module _ (t : List ℕ) (at size : ℕ) where
   all_there : take (at + size - at) (drop at t) ≡ slice t at size
   all_there = let e : at + size - at ≡ size = omega arith in ap (λ (n : ℕ). take n (drop at t)) e
-
--- a table and its copy
-pub copied : (t c : List ℕ) → length c ≡ length t → take (length t) t ++ drop (length t) c ≡ t
-copied t c e =
-    ap (λ (l : List ℕ). take (length t) t ++ l) (drop_of_length-le c {i = length t} (omega (arith, e))) ∙ append-nil (take (length t) t)
-    ∙ take-length t
 
 -- room for a copy
 pub room_of : {A : Type 0} (a : A) (n room : ℕ) → n ≤ room → length (take n (replicate room a)) ≡ n

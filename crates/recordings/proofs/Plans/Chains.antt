@@ -34,6 +34,7 @@ record Step (first end : ℕ) (run : List ℕ) (t : LabelledTransition) : Type 0
 
 step_of : (i : ℕ) (run : List ℕ) (t : LabelledTransition) → Memᴰ t (chain_from i run) → Step i (length run + i) run t
 unfolding chain_from
+step_of i [] t m = elim m [ ]
 step_of i (action ∷ run) t (Memᴰ.head e) =
     let o : t.origin ≡ i = ap (λ (u : LabelledTransition). u.origin) e in
     let g : t.target ≡ suc i = ap (λ (u : LabelledTransition). u.target) e in
