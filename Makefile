@@ -16,10 +16,10 @@ gate: ## prove all from nothing, try the must-fail edits, run the programs (rt c
 	.ci/run
 
 check: ## prove what changed since the last check, and run the programs that did
-	rt check
+	rt all check
 
 examples: ## judge the sheets of examples/ and others, make some anew, and compare
-	rt check plan_judge trials
+	tools/build plan_judge trials
 	python3 tests/sheets.py check examples $(PROGRAM)
 	python3 tests/sheets.py texts examples $(DRIVER)
 	python3 tests/sheets.py branches examples $(DRIVER)
@@ -29,35 +29,35 @@ examples: ## judge the sheets of examples/ and others, make some anew, and compa
 	python3 tests/sheets.py closest examples $(DRIVER)
 
 reports: ## print reports on about a thousand inputs, and compare with what is right
-	rt check counter_report
+	tools/build counter_report
 	python3 tests/counter_report.py examples $(REPORTER)
 
 sheet: ## write SHEET from the .aut file AUT and typed bodies, ACTIONS='..' RULE='..'
-	rt check trials
+	tools/build trials
 	python3 tests/aut_sheet.py '$(AUT)' '$(ACTIONS)' '$(RULE)' '$(SHEET)'
 
 branch: ## write NEW, the sheet OLD with one more transition, FROM=0 ACTION=2 TO=2
-	rt check trials
+	tools/build trials
 	python3 tests/branch_sheet.py '$(OLD)' '$(FROM)' '$(ACTION)' '$(TO)' '$(NEW)'
 
 shortest: ## say on which beginning of two recordings SHEET's rule fails first, FIRST=.. SECOND=..
-	rt check trials
+	tools/build trials
 	python3 tests/shortest_run.py '$(SHEET)' '$(FIRST)' '$(SECOND)'
 
 audit: ## say whether the filled table TABLE is right for SHEET, and if not, why
-	rt check trials
+	tools/build trials
 	python3 tests/audit_table.py '$(SHEET)' '$(TABLE)'
 
 allowance: ## deal VISITS=40 to benches on SHEET, STATES='0 2 1' (TABLES=.., LEFT=..: files)
-	rt check trials
+	tools/build trials
 	python3 tests/allowance_benches.py '$(SHEET)' '$(STATES)' '$(VISITS)' '$(TABLES)' '$(LEFT)'
 
 closest: ## say at which state SHEET's rule fails, the closest to state 0 (TABLE=..: a filled table)
-	rt check trials
+	tools/build trials
 	python3 tests/closest_state.py '$(SHEET)' '$(TABLE)'
 
 ways: ## print the closest states of 2,000 sheets and ways to them, and compare
-	rt check closest_state
+	tools/build closest_state
 	python3 tests/closest_program.py examples $(SEARCHER)
 
 trials: ## say whether the stored trials are what tests/cases.py makes
@@ -88,7 +88,7 @@ texts: ## turn .aut texts of a million bytes into plans on a small stack
 	python3 tests/long_texts.py
 
 deep: ## search runs, grant a bench and find closest states for the deepest rules on a small stack
-	rt check trials
+	tools/build trials
 	python3 tests/deep_runs.py
 
 count: ## read the counts that some thousands of tables store, and compare with what is right
@@ -96,18 +96,18 @@ count: ## read the counts that some thousands of tables store, and compare with 
 	python3 tests/stored_count.py
 
 differential: ## compare the trial driver with a program in Rust on 40,000 requests
-	rt check trials
+	tools/build trials
 	$(DIFFERENTIAL) vectors ../vectors
 	$(DIFFERENTIAL) selfcheck
 	$(DIFFERENTIAL) compare ../../$(DRIVER) --count 40000
 
 memory: ## look for a table behind child_count, and count read-only data (BEFORE=REVISION: and before)
-	rt check
+	rt all check
 	python3 tests/read_only.py function
 	python3 tests/read_only.py sizes $(BEFORE)
 
 benchmark: ## measure it against the Rust program and write docs/BENCHMARK.md
-	rt check trials
+	tools/build trials
 	$(DIFFERENTIAL) bench ../../$(DRIVER)
 
 help: ## this list

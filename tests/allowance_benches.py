@@ -16,7 +16,7 @@ The trial driver makes the call (docs/TRIALS.md, request 16), and it alone decid
 refuses, `refused`, its number and its place go to standard error, with what they mean; which bench
 is the lowest that is refused is by tests/oracle, a reading of the format in Python, and so is the
 length of a cleared table. Nothing is written then.
-Run `rt check trials` first, or name another driver by `--driver PROGRAM` before SHEET.
+Run `tools/build trials` first, or name another driver by `--driver PROGRAM` before SHEET.
 
 It ends with 0 where the visits are dealt; with 1 where the call refuses, or a word, a file or the
 driver can't be used; with 2 where it isn't called with three to five words.

@@ -13,7 +13,7 @@ The trial driver makes the call (docs/TRIALS.md, request 15), and it alone decid
 no is by tests/oracle, a reading of the format in Python: the count, or the first cell, by its byte,
 whose mark is wrong or that does not follow. Where the call refuses, `refused`, its number and its
 place go to standard error, with what they mean.
-Run `rt check trials` first, or name another driver by `--driver PROGRAM` before SHEET.
+Run `tools/build trials` first, or name another driver by `--driver PROGRAM` before SHEET.
 
 It ends with 0 where the call answers, yes or no; with 1 where it refuses, or a file or the driver
 can't be used; with 2 where it isn't called with two files.

@@ -10,7 +10,7 @@ bench (docs/LINES.md) instead.
 
 The trial driver makes the calls (docs/TRIALS.md, requests 11, 9 and 6), and they alone decide.
 Where one refuses, `refused`, its number and its place go to standard error, and nothing is written.
-Run `rt check trials` first, or name another driver by `--driver PROGRAM` before FILE.
+Run `tools/build trials` first, or name another driver by `--driver PROGRAM` before FILE.
 """
 import os
 import re

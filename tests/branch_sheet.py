@@ -9,7 +9,7 @@ FROM, ACTION and TO are a state, an action and a state, in decimal. The proposal
 
 The trial driver makes the calls (docs/TRIALS.md, requests 12 and 13), and they alone decide. Where
 one refuses, `refused`, its number and its place go to standard error, and nothing is written.
-Run `rt check trials` first, or name another driver by `--driver PROGRAM` before OLD.
+Run `tools/build trials` first, or name another driver by `--driver PROGRAM` before OLD.
 """
 import sys
 from pathlib import Path

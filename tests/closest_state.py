@@ -13,7 +13,7 @@ Where it was filled elsewhere, its filled cells say where the rule fails. Withou
 The trial driver makes the call (docs/TRIALS.md, request 17), and it alone decides. Where it
 refuses, `refused`, its number and its place go to standard error, with what they mean; the length
 of a cleared table is by tests/oracle, a reading of the format in Python.
-Run `rt check trials` first, or name another driver by `--driver PROGRAM` before SHEET.
+Run `tools/build trials` first, or name another driver by `--driver PROGRAM` before SHEET.
 
 It ends with 0 where the call answers, whether the rule fails or holds; with 1 where it refuses, or
 a file or the driver can't be used; with 2 where it isn't called with one file or two.

@@ -12,7 +12,7 @@ that the rule holds at each of 128 states. Each has to be answered as it should 
 on which it is, five times in a row, is printed too, beside that of a query of the deepest sheet;
 the system does not place a stack alike each time, so it varies by some KiB.
 
-Run `rt check trials` first, or name another driver by `--driver PROGRAM`.
+Run `tools/build trials` first, or name another driver by `--driver PROGRAM`.
 """
 import resource
 import subprocess

@@ -17,13 +17,13 @@ import time
 from native import SLICE, loaded
 
 SOURCE = '''
-#[no_mangle]
+#[unsafe(no_mangle)]
 pub extern "C" fn line_number(actions: u8, line: &[u8], out: &mut [u8]) -> u8 {
     let p = action_line::parsing::parse(actions, line, out);
     p.number()
 }
 
-#[no_mangle]
+#[unsafe(no_mangle)]
 pub extern "C" fn line_length(actions: u8, line: &[u8], out: &mut [u8]) -> usize {
     let p = action_line::parsing::parse(actions, line, out);
     p.length()

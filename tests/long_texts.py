@@ -22,19 +22,19 @@ from oracle.aut import aut_body
 from oracle.sheet import Refused
 
 SOURCE = '''
-#[no_mangle]
+#[unsafe(no_mangle)]
 pub extern "C" fn aut_number(text: &[u8], out: &mut [u8]) -> u8 {
     let c = aut::converting::convert(text, out);
     c.number()
 }
 
-#[no_mangle]
+#[unsafe(no_mangle)]
 pub extern "C" fn aut_place(text: &[u8], out: &mut [u8]) -> u16 {
     let c = aut::converting::convert(text, out);
     c.place()
 }
 
-#[no_mangle]
+#[unsafe(no_mangle)]
 pub extern "C" fn aut_length(text: &[u8], out: &mut [u8]) -> usize {
     let c = aut::converting::convert(text, out);
     c.length()

@@ -35,18 +35,15 @@ def archive(root, source, *names):
     with tempfile.TemporaryDirectory() as folder:
         made = Path(folder)
         crates = below(root, names)
-        crates['made'] = ' ' + ' '.join(crates)
-        (made / 'crates.txt').write_text(''.join('%s:%s\n' % line for line in crates.items()))
-        for name in [*crates][:-1]:
+        lines = ['%s:%s\n' % line for line in crates.items()]
+        lines.append('made staticlib: %s\n' % ' '.join(crates))
+        (made / 'crates.txt').write_text(''.join(lines))
+        for name in crates:
             shutil.copytree(root / 'crates' / name, made / 'crates' / name)
-            shutil.copytree(root / 'target/rlib' / (name + '.rlib'),
-                            made / 'target/rlib' / (name + '.rlib'))
-            (made / 'target/stamp').mkdir(exist_ok=True)
-            shutil.copy(root / 'target/stamp' / name, made / 'target/stamp' / name)
         (made / 'crates/made/src').mkdir(parents=True)
-        (made / 'crates/made/src/lib.rt').write_text(source.lstrip())
-        run(made, 'rt', 'staticlib', 'made')
-        return (made / 'target/staticlib/libmade.a').read_bytes()
+        (made / 'crates/made/src/lib.rt').write_text('#![tactic(auto)]\n\n' + source.lstrip())
+        run(made / 'crates/made', 'rt', 'lib')
+        return (made / 'crates/made/out/libmade.a').read_bytes()
 
 
 def loaded(source, *names):

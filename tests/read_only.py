@@ -22,7 +22,7 @@ from native import HERE, archive, run
 from oracle.sheet import children
 
 ALONE = '''
-#[no_mangle]
+#[unsafe(no_mangle)]
 pub extern "C" fn child_count(kind: u8) -> u8 {
     sheet::kinds::child_count(kind)
 }
@@ -30,7 +30,7 @@ pub extern "C" fn child_count(kind: u8) -> u8 {
 
 # a number for each kind: LLVM makes a table of it, in read-only data or in one wide constant
 MATCH = '''
-#[no_mangle]
+#[unsafe(no_mangle)]
 pub extern "C" fn child_count(kind: u8) -> %s {
     match kind {
 %s        _ => 0,
@@ -47,7 +47,7 @@ use sheet::Read;
 use sheet::Variable;
 use sheet::Written;
 
-#[no_mangle]
+#[unsafe(no_mangle)]
 pub extern "C" fn refusal_number(sheet: &[u8]) -> u8 {
     let read = sheet::reader::read(sheet);
     match read {
@@ -56,7 +56,7 @@ pub extern "C" fn refusal_number(sheet: &[u8]) -> u8 {
     }
 }
 
-#[no_mangle]
+#[unsafe(no_mangle)]
 pub extern "C" fn refusal_place(sheet: &[u8]) -> u16 {
     let checked = sheet::reader::check(sheet);
     match checked {
@@ -65,7 +65,7 @@ pub extern "C" fn refusal_place(sheet: &[u8]) -> u16 {
     }
 }
 
-#[no_mangle]
+#[unsafe(no_mangle)]
 pub extern "C" fn write_sheet(plan: &[u8], actions: &[u8], rule: &[u8], out: &mut [u8]) -> usize {
     let written = sheet::writer::write(plan, actions, rule, out);
     match written {
@@ -74,7 +74,7 @@ pub extern "C" fn write_sheet(plan: &[u8], actions: &[u8], rule: &[u8], out: &mu
     }
 }
 
-#[no_mangle]
+#[unsafe(no_mangle)]
 pub extern "C" fn check_plan(plan: &[u8]) -> bool {
     let checked = sheet::plan::check_plan(plan);
     match checked {
@@ -83,38 +83,38 @@ pub extern "C" fn check_plan(plan: &[u8]) -> bool {
     }
 }
 
-#[no_mangle]
+#[unsafe(no_mangle)]
 pub extern "C" fn transition_count(sheet: &[u8]) -> u16 {
     sheet::plan::transition_count(sheet::reader::plan_body(sheet))
 }
 
-#[no_mangle]
+#[unsafe(no_mangle)]
 pub extern "C" fn plan_fields(plan: &[u8], i: u16) -> u8 {
     let t = sheet::plan::transition(plan, i);
     let counts = sheet::plan::state_count(plan) ^ sheet::plan::action_count(plan);
     counts ^ t.from.0 ^ t.action.0 ^ t.to.0
 }
 
-#[no_mangle]
+#[unsafe(no_mangle)]
 pub extern "C" fn action_fields(sheet: &[u8], i: u8) -> u8 {
     let actions = sheet::reader::actions_body(sheet);
     let e = sheet::actions::entry(actions, i);
     sheet::actions::entry_count(actions) ^ e.kind ^ e.x ^ e.y
 }
 
-#[no_mangle]
+#[unsafe(no_mangle)]
 pub extern "C" fn rule_fields(sheet: &[u8], i: u8) -> u8 {
     let rule = sheet::reader::rule_body(sheet);
     let n = sheet::rule::node(rule, Node(i));
     sheet::rule::node_count(rule) ^ sheet::rule::binder_count(rule) ^ n.kind ^ n.x ^ n.y
 }
 
-#[no_mangle]
+#[unsafe(no_mangle)]
 pub extern "C" fn is_binder(rule: &[u8], i: u8) -> bool {
     sheet::rule::is_binder(rule, Node(i))
 }
 
-#[no_mangle]
+#[unsafe(no_mangle)]
 pub extern "C" fn bound_before(rule: &[u8], k: u8, i: u8) -> bool {
     sheet::rule::bound_before(rule, Variable(k), Node(i))
 }
@@ -209,7 +209,7 @@ def measured(root):
     yield 'sheet crate', library(root, WHOLE)
     for main in sorted(root.glob('crates/*/src/main.rt')):
         name = main.parent.parent.name
-        yield name, sections((root / 'target/obj' / (name + '.o')).read_bytes())
+        yield name, sections((root / 'crates' / name / 'out' / (name + '.o')).read_bytes())
 
 
 def sizes(root, title):

@@ -10,7 +10,7 @@ beginning of no action counts too. Between equal lengths the first recording's i
 
 The trial driver makes the call (docs/TRIALS.md, request 14), and it alone decides. Where it
 refuses, `refused`, its number and its place go to standard error, with what they mean.
-Run `rt check trials` first, or name another driver by `--driver PROGRAM` before SHEET.
+Run `tools/build trials` first, or name another driver by `--driver PROGRAM` before SHEET.
 
 It ends with 0 where the call answers, whether the rule fails or holds; with 1 where it refuses, or
 a file or the driver can't be used; with 2 where it isn't called with three files.

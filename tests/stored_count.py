@@ -22,19 +22,19 @@ from oracle.rows import Sheet, clear, count, query
 from oracle.sheet import Refused, four, sheet_of
 
 SOURCE = '''
-#[no_mangle]
+#[unsafe(no_mangle)]
 pub extern "C" fn count_number(sheet: &[u8], table: &[u8]) -> u8 {
     let counted = judge::counting::stored_count(sheet, table);
     counted.number()
 }
 
-#[no_mangle]
+#[unsafe(no_mangle)]
 pub extern "C" fn count_place(sheet: &[u8], table: &[u8]) -> u16 {
     let counted = judge::counting::stored_count(sheet, table);
     counted.place()
 }
 
-#[no_mangle]
+#[unsafe(no_mangle)]
 pub extern "C" fn stored_count(sheet: &[u8], table: &[u8]) -> u32 {
     let counted = judge::counting::stored_count(sheet, table);
     counted.stored()
