@@ -3,6 +3,8 @@
 // One pass over the line, in which no function calls itself: token by token it is found out whether the line is readable, whether its actions are known
 // and how many entries it has, and the entries are made in a buffer of the call's own, as long as they are not too many. The operators that wait for an
 // operand are at most as many as the entries, and each is kept with the number of parentheses open where it stands: parentheses take no room.
+#![tactic(auto)]
+
 mod builder;
 mod checker;
 mod lexer;

@@ -38,7 +38,7 @@ fn write_body(made: &[u8], entries: usize, out: &mut [u8]) -> Parsed
     if out.len() < length {
         return Parsed::OutputShort;
     }
-    bytes::copy(&made[0..length], out);
+    out[..length].copy_from_slice(&made[..length]);
     out[0] = entries as u8;
     Parsed::Wrote(length)
 }

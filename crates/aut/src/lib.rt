@@ -4,6 +4,8 @@
 // their states are below the stated number, and labels and transitions are gathered, as long as they are not too many: labels as the places where they
 // first stand, transitions as keys in rising order. Numbers may be of any length, so they are compared by their digits. The refusals are told at the end,
 // in their order.
+#![tactic(auto)]
+
 mod comparing;
 pub mod converting;
 mod keys;

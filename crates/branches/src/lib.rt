@@ -2,6 +2,8 @@
 //
 // A proposal says where the transition goes, how long the new file is, and the tag of the bytes it was made for. It is never trusted: both
 // calls go through the same examination, and commit compares the fresh proposal with the one handed in before it writes.
+#![tactic(auto)]
+
 pub mod committing;
 mod examining;
 mod inserting;

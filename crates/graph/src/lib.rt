@@ -1,5 +1,6 @@
 // A plan as a graph: the search for loops that can be reached from a state, or from several.
 #![tactic(auto)]
+
 pub mod loops;
 pub mod searching;
 

@@ -1,4 +1,6 @@
 // The judge: rows of cells, clearing and query; the count that a table carries; the audit of a filled table.
+#![tactic(auto)]
+
 pub mod auditing;
 pub mod clearing;
 mod consistency;

@@ -2,6 +2,8 @@
 //
 // One pass over the pattern says whether it is readable. A readable pattern of more than 189 bytes becomes more than 64 nodes, so what comes after is
 // bounded: each part is gone through once for each copy of it in the result, which is made up to its 64th node at most.
+#![tactic(auto)]
+
 mod nodes;
 mod pattern_check;
 mod putting;

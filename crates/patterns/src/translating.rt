@@ -34,7 +34,7 @@ fn write_body(made: &[u8], nodes: u8, out: &mut [u8]) -> Translated
     if out.len() < length {
         return Translated::Refused(Refusal::OutputShort);
     }
-    bytes::copy(&made[0..length], out);
+    out[..length].copy_from_slice(&made[..length]);
     out[0] = nodes;
     Translated::Wrote(length)
 }

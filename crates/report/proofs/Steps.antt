@@ -1,3 +1,2 @@
-pub mod LentAgain
 pub mod LineSteps
 pub mod ReportAnswers

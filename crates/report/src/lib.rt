@@ -1,5 +1,7 @@
 // A report for the counter terminal: the table of a sheet is cleared, a list of queries is run in order, and a text says what each of them gave, a line
 // for each and the total of the visits in the last. It rests on what the judge promises of clearing, query and stored count, and on nothing else of it.
+#![tactic(auto)]
+
 mod line;
 pub mod reporting;
 

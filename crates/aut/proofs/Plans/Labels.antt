@@ -124,7 +124,7 @@ labels_next x ks xs =
     (r.0 ∙ o.0, r.1)
 
 -- every line's label is one of them
-line_listed : (ks : List (List ℕ)) (xs : List TransitionLine) {x : TransitionLine} → Memᴰ x xs → Listed x.label (labels_from ks xs)
+line_listed : {x : TransitionLine} (ks : List (List ℕ)) (xs : List TransitionLine) → Memᴰ x xs → Listed x.label (labels_from ks xs)
 unfolding labels_from
 line_listed ks xs (Memᴰ.head {x = y} {xs = ys} q) =
     subst (λ (z : TransitionLine). Listed z.label (labels_from ks (y ∷ ys))) (sym q) (labels_next y ks ys).1

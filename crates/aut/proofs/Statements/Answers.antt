@@ -55,7 +55,7 @@ module _ (n : ℕ) where
   line-false x (inl l) = rw (le-ltb x.from n l) refl
   line-false x (inr l) = rw (le-ltb x.to n l) (and-false (ltb x.from n))
 
-  below_false : (xs : List TransitionLine) {x : TransitionLine} → Memᴰ x xs → Over x → states_below n xs ≡ false
+  below_false : {x : TransitionLine} (xs : List TransitionLine) → Memᴰ x xs → Over x → states_below n xs ≡ false
   unfolding states_below
   below_false xs (Memᴰ.head {x = y} {xs = ys} q) o = rw (line-false y (subst Over q o)) refl
   below_false xs (Memᴰ.tail {x = y} {xs = ys} m) o = rw (below_false ys m o) (and-false (ltb y.from n && ltb y.to n))

@@ -29,7 +29,6 @@ use Rattle.aut.specs.declared.pass.Pass.{Pass}
 use Rattle.aut.specs.declared.converting.Outcome.{Outcome}
 use Rattle.aut.specs.declared.converting.Outcome.TheVariants.{Malformed, StateOutOfRange, OverLimits, Fits}
 use Rattle.aut.specs.declared.Converted.{Converted}
-use Rattle.aut.specs.declared.Converted.TheVariants as Converted
 use Rattle.aut.proofs.Plans.Transitions.{transitions_merged}
 use Rattle.aut.proofs.Plans.Body.{body_length}
 use Rattle.aut.proofs.Statements.Answers.{state_over, answers_unreadable, answers-malformed, answers-state, answers-limits, answers_short, answers_wrote}

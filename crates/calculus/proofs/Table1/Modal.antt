@@ -25,10 +25,13 @@ any_found p (x ∷ ts) e = go (p x) refl e (any_found p ts)
     go true q e k = (x, Memᴰ.head refl, q)
     go false q e k = let r = k e in (r.0, Memᴰ.tail r.1, r.2)
 
-pub any_of : (p : LabelledTransition → Bool) {ts : List LabelledTransition} {t : LabelledTransition} → Memᴰ t ts → p t ≡ true → any_transition p ts ≡ true
+any_among : (p : LabelledTransition → Bool) (t : LabelledTransition) {ts : List LabelledTransition} → Memᴰ t ts → p t ≡ true → any_transition p ts ≡ true
 unfolding any_transition
-any_of p (Memᴰ.head {x = x} e) q = (or-true (p x) _).1 (inl (subst (λ (y : LabelledTransition). p y ≡ true) e q))
-any_of p (Memᴰ.tail {x = x} m) q = (or-true (p x) _).1 (inr (any_of p m q))
+any_among p t (Memᴰ.head {x = x} e) q = (or-true (p x) _).1 (inl (subst (λ (y : LabelledTransition). p y ≡ true) e q))
+any_among p t (Memᴰ.tail {x = x} m) q = (or-true (p x) _).1 (inr (any_among p t m q))
+
+pub any_of : (p : LabelledTransition → Bool) {ts : List LabelledTransition} {t : LabelledTransition} → Memᴰ t ts → p t ≡ true → any_transition p ts ≡ true
+any_of p {t = t} m q = any_among p t m q
 
 departs_true : (P : Plan) (α : ActionFormula) (s : ℕ) (t : LabelledTransition) → (departs P α s t ≡ true) ↔ ((t.origin ≡ s) × (meets P.actions α t.action ≡ true))
 unfolding departs

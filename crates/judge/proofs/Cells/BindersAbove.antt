@@ -123,7 +123,7 @@ module _ (r : List ℕ) where
   among_all n zero h = let q : n ≡ 0 = omega arith in rw q
   among_all n (suc m) h =
       elim (dec_lt m n) [
-        | yes l ↦ let q : n ≡ suc m = omega arith in rw q
+        | yes l ↦ let q : n ≡ suc m = omega arith in subst (λ (k : ℕ). above_among r n k ≡ binders_above r n) q refl
         | no l ↦ none (is_binder r m) (le-ltb m n (omega arith)) ∙ among_all n m (omega arith)
       ]
     where

@@ -1,5 +1,5 @@
 -- The cells lie in the table one beside the other, and all that solving asks of a sheet's rows and cells holds.
-use Rattle.std.proofs.Common.{◌≡◌, ℕ, zero, suc, ◌+◌, ◌*◌, ◌/◌, ◌%◌, ◌<◌, List, sym, refl, ap, ◌∙◌, subst, not-suc-le-zero, mod-lt, div-lt_iff_lt-mul, mul-zero, div-add-mod', arith}
+use Rattle.std.proofs.Common.{◌≡◌, ℕ, zero, suc, ◌+◌, ◌*◌, ◌/◌, ◌%◌, ◌<◌, List, sym, ap, ◌∙◌, subst, not-suc-le-zero, mod-lt, div-lt_iff_lt-mul, mul-zero, div-add-mod', arith}
 use lib.Arith.{digits_lt, digits_div, digits_mod}
 use Rattle.sheet.specs.Contents.{plan_body, rule_body}
 use Rattle.sheet.specs.Plan.{state_count}

@@ -1,5 +1,5 @@
 -- What is needed for a cell, and for the queries of a list of states, by the place of its byte.
-use Rattle.std.proofs.Common.{◌≡◌, ℕ, Bool, true, false, ◌⊎◌, ◌↔◌, List, [], ◌∷◌, map, sym, refl, subst, inl, inr, true≢false}
+use Rattle.std.proofs.Common.{◌≡◌, ℕ, Bool, true, ◌⊎◌, ◌↔◌, List, [], ◌∷◌, map, sym, refl, subst, inl, inr, true≢false}
 use mathlib.Core.List.Memᴰ
 use mathlib.Core.List.{Memᴰ}
 use Rattle.sheet.specs.Contents.{rule_body}
@@ -23,9 +23,9 @@ module _ (s : List ℕ) (accepted : sheet_check s ≡ Passed) where
   place = position_of (rule_body s)
 
   module _ (R : Cell → Row Cell) (falls : Ranked s accepted R) where
-    needed_settled : {c d : Cell} {v : Cell → Bool} → Settled s accepted c → Needed R v c d → Settled s accepted d
+    needed_settled : {v : Cell → Bool} {c d : Cell} → Settled s accepted c → Needed R v c d → Settled s accepted d
     needed_settled h itself = h
-    needed_settled {c} {v = v} h (entry {e = e} l n) =
+    needed_settled {v} {c} h (entry {e = e} l n) =
         needed_settled (each_at _ (R c).entries (falls.falls c h) e (looked_entry (R c).connective v l)).0 n
 
     module _ (c : Cell) (h : Settled s accepted c) where

@@ -1,6 +1,6 @@
 -- A call of `query` that is not refused: the solution, the cells filled and the visits are those of the rows as the table changes them.
-use Rattle.std.proofs.Common.{◌≡◌, ℕ, ◌+◌, ◌<◌, ◌≤◌, Bool, true, false, ◌&&◌, ltb, leb, ◌≢◌, ◌⊎◌, List, length, sym, refl, ap, ◌∙◌, subst, ap₂, inl, inr, arith, eqb-true, leb-true}
-use Rattle.sheet.specs.Contents.{plan_body, actions_body, rule_body}
+use Rattle.std.proofs.Common.{◌≡◌, ℕ, ◌+◌, Bool, true, false, ◌&&◌, ltb, leb, ◌≢◌, ◌⊎◌, List, length, sym, refl, ap, ◌∙◌, subst, ap₂, arith, eqb-true, leb-true}
+use Rattle.sheet.specs.Contents.{plan_body, rule_body}
 use Rattle.sheet.specs.Plan.{state_count}
 use Rattle.sheet.specs.Refusals.{require, and_then}
 use Rattle.sheet.specs.Reading.{sheet_check}
@@ -8,7 +8,6 @@ use Rattle.sheet.specs.declared.Refusal.TheVariants.{NoSuchState, Loop, TableSho
 use Rattle.sheet.specs.declared.Check.{Check}
 use Rattle.sheet.specs.declared.Check.TheVariants.{Passed, Failed}
 use Rattle.sheet.proofs.Acceptance.Numbers.{refused_number}
-use Rattle.sheet.proofs.Acceptance.Parts.{bodies_kept}
 use Rattle.sheet.proofs.Checks.Checks.{passed_then, passed_require}
 use Rattle.graph.specs.LoopTest.{loop_free}
 use Rattle.rows.specs.Rows.{Needed, value, need}

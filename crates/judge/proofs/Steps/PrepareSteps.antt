@@ -1,5 +1,5 @@
 -- What the code of preparing shows.
-use Rattle.std.proofs.Common.{◌≡◌, ℕ, ◌+◌, ◌-◌, ◌<◌, ◌≤◌, Bool, true, List, length, get_or, set, sym, refl, ◌∙◌, subst, arith, length-set, get_or-set_other, get_or-set_same, below_more}
+use Rattle.std.proofs.Common.{◌≡◌, ℕ, ◌+◌, ◌<◌, ◌≤◌, Bool, true, List, length, get_or, set, sym, refl, ◌∙◌, subst, arith, length-set, get_or-set_other, get_or-set_same, below_more}
 use native.Mathlib.Decide.{ℕ_discrete}
 use Rattle.graph.proofs.Search.Outgoing.{is_outgoing}
 use Rattle.graph.specs.Index.{firsts_at, index_size}

@@ -1,5 +1,5 @@
 -- The pass that scans a table state by state: which states have a filled cell.
-use Rattle.std.proofs.Common.{◌≡◌, ℕ, ◌+◌, ◌-◌, ◌*◌, ◌<◌, ◌≤◌, Bool, true, false, eqb, ◌≢◌, List, length, get_or, take, drop, set, sym, refl, ap, ◌∙◌, subst, mul-le-mul, arith, length-drop, length-set, length-take-le, get_or-drop, get_or-set_other, get_or-take, get_or-set_same}
+use Rattle.std.proofs.Common.{◌≡◌, ℕ, ◌+◌, ◌*◌, ◌<◌, ◌≤◌, Bool, true, false, eqb, ◌≢◌, List, length, get_or, take, drop, set, sym, refl, ap, ◌∙◌, subst, mul-le-mul, arith, length-drop, length-set, length-take-le, get_or-drop, get_or-set_other, get_or-take, get_or-set_same}
 use native.Mathlib.Decide.{dec_lt, ℕ_discrete}
 use Rattle.sheet.specs.Bytes.{lowest}
 use Rattle.sheet.proofs.Checks.Checks.{none_found, one_found}

@@ -1,6 +1,6 @@
 -- The loop over the transitions of a state, for a "some" or an "every": the transition of a turn, the cell that it leads to, and the cells
 -- of those that are left.
-use Rattle.std.proofs.Common.{◌≡◌, ℕ, ◌+◌, ◌-◌, ◌*◌, ◌<◌, ◌≤◌, Bool, true, false, List, [], ◌∷◌, length, get_or, sym, refl, ap, ◌∙◌, subst, inl, inr, arith}
+use Rattle.std.proofs.Common.{◌≡◌, ℕ, ◌+◌, ◌*◌, ◌<◌, ◌≤◌, Bool, true, false, List, [], ◌∷◌, length, get_or, sym, refl, ap, ◌∙◌, subst, inl, inr, arith}
 use mathlib.Core.List.{Memᴰ}
 use native.Mathlib.Nat.{sub-zero}
 use Rattle.sheet.specs.Contents.{plan_body, actions_body, rule_body}

@@ -189,4 +189,4 @@ module _ (s p : List ℕ) where
     }
 
 pub translation_correct : TranslationCorrect
-translation_correct s p out answer out' c = subst₂ (TranslationAnswered s p out) (sym c.0) (sym c.1.1) (answered s p out)
+translation_correct s p out said out' c = subst₂ (TranslationAnswered s p out) (sym c.0) (sym c.1.1) (answered s p out)

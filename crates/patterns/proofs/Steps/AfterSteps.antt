@@ -7,8 +7,7 @@ use native.Mathlib.Omega.{arith}
 use lib.ListN.{length}
 use Rattle.sheet.specs.Bytes.{byte}
 use Rattle.calculus.specs.Trees.{Tree, tree_of}
-use Rattle.patterns.specs.Patterns.{Pattern}
-use Rattle.patterns.specs.Translation.{raised, before}
+use Rattle.patterns.specs.Translation.{raised}
 use Rattle.patterns.specs.Internal.SecondParts.{PartAt, Noted}
 use Rattle.patterns.specs.Internal.Nodes.{variable_fields, with_node, Progressed}
 use Rattle.patterns.specs.Internal.Putting.{every_of, Follows, PartRequires, PartPut, AfterRequires, AfterPut}

@@ -1,5 +1,5 @@
 -- The turns of copying the rule behind the nodes that are made.
-use Prim.Native.Nat.{ℕ, zero, suc, ◌+◌, ◌*◌, ◌-◌, ◌<◌, ◌≤◌}
+use Prim.Native.Nat.{ℕ, suc, ◌+◌, ◌*◌, ◌-◌, ◌<◌, ◌≤◌}
 use mathlib.Core.Path.{◌≡◌, refl, sym, ◌∙◌, ap, ap₂, subst}
 use mathlib.Core.List.{List, [], ◌++◌, append_assoc, append-nil}
 use native.Mathlib.Omega.{arith}
@@ -7,7 +7,7 @@ use lib.ListN.{length, take}
 use Rattle.sheet.specs.Rule.{node_count, binder_count}
 use Rattle.sheet.specs.Fields.{fields_at}
 use Rattle.sheet.specs.declared.Fields.{Fields}
-use Rattle.calculus.specs.Trees.{Tree, tree_size, binders, nodes_from, tree_of}
+use Rattle.calculus.specs.Trees.{tree_size, binders, nodes_from, tree_of}
 use Rattle.calculus.proofs.Trees.TreeOf.{tree_stands, trees_exactly}
 use Rattle.patterns.specs.Translation.{raised}
 use Rattle.patterns.specs.Internal.Nodes.{moved, with_node, Making, Followed, Exceeds}

@@ -1,10 +1,9 @@
 -- The rule's own nodes, moved behind those that are made.
-use Prim.Native.Nat.{ℕ, zero, suc, ◌+◌, ◌*◌, ◌<◌, ◌≤◌}
-use mathlib.Core.Path.{◌≡◌, refl, sym, ◌∙◌, ap, ap₂}
-use mathlib.Core.Bool.{Bool}
+use Prim.Native.Nat.{ℕ, zero, suc, ◌+◌, ◌<◌, ◌≤◌}
+use mathlib.Core.Path.{◌≡◌, refl, ◌∙◌, ap, ap₂}
 use mathlib.Core.List.{List, [], ◌∷◌, ◌++◌}
 use native.Mathlib.Omega.{arith}
-use Rattle.sheet.specs.Rule.{node_count, node_kind, node_x, node_y, one_if, binders_before}
+use Rattle.sheet.specs.Rule.{node_count, node_kind, node_x, node_y}
 use Rattle.sheet.specs.Fields.{fields_at}
 use Rattle.sheet.specs.WellFormed.{Subtree, WellFormedRule}
 use Rattle.sheet.specs.declared.Fields.{Fields}

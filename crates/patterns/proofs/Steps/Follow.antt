@@ -1,18 +1,17 @@
 -- What follows a part, and the slots that say it.
 use Prim.Native.Nat.{ℕ, ◌+◌, ◌<◌, ◌≤◌}
-use mathlib.Core.Path.{◌≡◌, refl, sym, ◌∙◌}
+use mathlib.Core.Path.{◌≡◌, ◌∙◌}
 use mathlib.Core.Bool.{Bool}
 use mathlib.Core.List.{List}
 use native.Mathlib.Omega.{arith}
 use lib.ListN.{length, set}
 use lib.Seq.{get_or-set_same, get_or-set_other}
 use Rattle.sheet.specs.Bytes.{byte}
-use Rattle.calculus.specs.Trees.{Tree, tree_size}
+use Rattle.calculus.specs.Trees.{Tree}
 use Rattle.patterns.specs.Patterns.{Pattern}
 use Rattle.patterns.specs.Translation.{before}
 use Rattle.patterns.specs.Internal.SecondParts.{PartAt, Noted}
 use Rattle.patterns.specs.Internal.Putting.{Follows}
-use Rattle.patterns.proofs.Steps.Parts.{part_some}
 
 module _ {p seconds slots : List ℕ} {every : Bool} {t : Tree} where
   -- what begins after one place begins after an earlier one

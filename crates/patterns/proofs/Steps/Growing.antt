@@ -1,10 +1,10 @@
 -- Trees made node by node: what is promised of a tree's children is promised of the tree, once its own nodes are put.
 use Prim.Native.Nat.{ℕ, suc, ◌+◌, ◌*◌, ◌<◌, ◌≤◌}
 use mathlib.Core.Path.{◌≡◌, refl, sym, ◌∙◌, ap, ap₂}
-use mathlib.Core.Bool.{Bool, true, false}
+use mathlib.Core.Bool.{Bool}
 use mathlib.Core.List.{List, [], ◌∷◌, ◌++◌, append_assoc}
 use native.Mathlib.Omega.{arith}
-use lib.ListN.{length, take, length-append}
+use lib.ListN.{length, take}
 use Rattle.sheet.specs.Rule.{one_if}
 use Rattle.sheet.specs.declared.Fields.{Fields}
 use Rattle.calculus.specs.Trees.{Tree, tree_size, binders, nodes_from, pair, modal, variable, binder}

@@ -1,18 +1,15 @@
 -- The courses of putting a part: what each call of it is given, and what comes of it. A sequence, an action, and where there is no room.
-use Prim.Native.Nat.{ℕ, suc, ◌+◌, ◌<◌, ◌≤◌}
-use mathlib.Core.Path.{◌≡◌, refl, sym, ◌∙◌, ap, ap₂, subst}
-use mathlib.Core.Bool.{Bool, true, false}
+use Prim.Native.Nat.{ℕ, ◌+◌, ◌<◌, ◌≤◌}
+use mathlib.Core.Path.{◌≡◌, refl, ◌∙◌, ap, ap₂, subst}
 use mathlib.Core.List.{List}
 use native.Mathlib.Omega.{arith}
 use native.Mathlib.Decide.{ℕ_discrete}
 use borrow.Author.Tests.{eq-eqb, ne_eqb}
-use lib.Dec.{eqb}
 use lib.ListN.{length, set, length-set}
 use lib.Seq.{get_or-set_other}
 use Rattle.sheet.specs.Bytes.{byte}
 use Rattle.sheet.specs.Rule.{one_if}
-use Rattle.sheet.specs.declared.Fields.{Fields}
-use Rattle.calculus.specs.Trees.{Tree, tree_size, tree_of}
+use Rattle.calculus.specs.Trees.{Tree, tree_of}
 use Rattle.patterns.specs.Patterns.{Pattern}
 use Rattle.patterns.specs.Translation.{before}
 use Rattle.patterns.specs.Internal.SecondParts.{PartAt, Noted}

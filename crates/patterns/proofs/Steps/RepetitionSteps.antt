@@ -1,6 +1,6 @@
 -- The courses of putting a repetition: a fixed point of a pair of what follows and of its part before the variable.
 use Prim.Native.Nat.{ℕ, suc, ◌+◌, ◌<◌, ◌≤◌}
-use mathlib.Core.Path.{◌≡◌, refl, sym, ◌∙◌, ap, subst}
+use mathlib.Core.Path.{◌≡◌, refl, ◌∙◌, ap, subst}
 use mathlib.Core.List.{List}
 use mathlib.Core.Logic.{◌⊎◌, ⊎_elim}
 use native.Mathlib.Omega.{arith}
@@ -12,7 +12,6 @@ use Rattle.calculus.specs.Trees.{Tree, tree_size, binders, tree_of}
 use Rattle.calculus.proofs.Trees.Stands.{size_some}
 use Rattle.patterns.specs.Patterns.{Pattern}
 use Rattle.patterns.specs.Translation.{before}
-use Rattle.patterns.specs.Internal.SecondParts.{PartAt, Noted}
 use Rattle.patterns.specs.Internal.Nodes.{pair_fields, binder_fields, with_node, Followed, Exceeds, Progressed}
 use Rattle.patterns.specs.Internal.Putting.{every_of, Follows, PartRequires, PartPut, AfterRequires, AfterPut}
 use Rattle.patterns.specs.declared.Progress.{Progress}

@@ -1,6 +1,6 @@
 -- What is asked and promised where the parts of a pattern become nodes. Contracts of private functions cite these; no promise of a public
 -- call does.
-use Rattle.std.specs.Prelude.{ℕ, ◌+◌, ◌<◌, ◌≤◌, ◌≡◌, Bool, List, length, eqb}
+use Rattle.std.specs.Prelude.{ℕ, ◌<◌, ◌≤◌, ◌≡◌, Bool, List, length, eqb}
 use Rattle.sheet.specs.Bytes.{byte}
 use Rattle.calculus.specs.Trees.{Tree, tree_of}
 use Rattle.patterns.specs.Patterns.{Pattern}

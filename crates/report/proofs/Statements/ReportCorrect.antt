@@ -21,7 +21,6 @@ use Rattle.judge.specs.Cells.{table_bytes}
 use Rattle.judge.specs.StoredCount.{stored_count}
 use Rattle.judge.specs.Clearing.{clear_check, answer_cleared, cleared_of, table_cleared, ClearReport, reported_clear}
 use Rattle.judge.specs.Lists.{JustCleared, reports, table_after}
-use Rattle.judge.specs.declared.Cleared.TheVariants as cleared
 use Rattle.judge.proofs.Lists.Called.{calls_exactly}
 use Rattle.judge.proofs.Statements.Demand3.{demand3}
 use Rattle.judge.proofs.Statements.RunningCalls.{delivered}

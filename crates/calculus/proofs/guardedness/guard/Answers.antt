@@ -1,5 +1,4 @@
 -- `calculus::guardedness::guard` meets its contract.
-use borrow.Author.Rules.{rules}
 use mathlib.Core.Path.{sym, ap, ◌∙◌}
 use Rattle.calculus.specs.GuardCheck.{reported_guard}
 use Rattle.calculus.proofs.Definition2.GuardSteps.{guard_start, guard_refused, guard_answered}

@@ -1,5 +1,4 @@
 -- `calculus::meeting::entry_meets` meets its contract: the number that was matched says which kind of entry it is.
-use borrow.Author.Rules.{rules}
 use native.Mathlib.Omega.{arith}
 use mathlib.Core.Path.{◌∙◌}
 use Rattle.calculus.proofs.Masks.MeetingMask.{meets_false, meets_true, meets_action, meets_or, meets_and, meets_not, meets_range, meets_unknown}

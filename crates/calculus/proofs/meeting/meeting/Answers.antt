@@ -1,16 +1,8 @@
-use Prim.Native.Nat.{ℕ, ◌≤◌, ◌-◌, min}
-use mathlib.Core.Path.{◌≡◌, ap, ◌∙◌}
+use Prim.Native.Nat.{ℕ, min}
+use mathlib.Core.Path.{ap, ◌∙◌}
 use native.Mathlib.Omega.{arith}
-use Rattle.sheet.specs.Actions.{entry_count}
-use Rattle.calculus.specs.MeetingMask.{mask_up_to}
 use Rattle.calculus.proofs.Masks.MeetingMask.{mask_start, mask_whole}
 use Rattle.calculus.proofs.meeting.meeting.Goals as goal
-
-pub entry_count-requires : goal.entry_count-requires
-entry_count-requires c = tt
-
-pub at_most_32-entries-requires : goal.at_most_32-entries-requires
-at_most_32-entries-requires c = tt
 
 pub loop-e-init : goal.loop-e-init
 loop-e-init c = (omega arith, (c.at_most_32-entries.ensures ∙ ap (λ (n : ℕ). min n 32) c.entry_count.ensures, mask_start _ _ _))

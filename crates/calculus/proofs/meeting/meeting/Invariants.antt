@@ -1,10 +1,8 @@
 -- `calculus::meeting::meeting` meets its contract. The mask of the entries passed is carried along; the measure is the number of entries left.
-use Prim.Native.Nat.{ℕ, ◌≤◌, ◌-◌, min}
-use mathlib.Core.Path.{◌≡◌, ap, ◌∙◌}
-use native.Mathlib.Omega.{arith}
+use Prim.Native.Nat.{◌≤◌, ◌-◌, min}
+use mathlib.Core.Path.{◌≡◌}
 use Rattle.sheet.specs.Actions.{entry_count}
 use Rattle.calculus.specs.MeetingMask.{mask_up_to}
-use Rattle.calculus.proofs.Masks.MeetingMask.{mask_start, mask_whole}
 use Rattle.calculus.proofs.meeting.meeting.Given as goal
 
 abbrev pub invariant-loop-e : goal.invariant-loop-e

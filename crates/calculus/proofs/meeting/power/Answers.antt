@@ -1,5 +1,4 @@
 -- `calculus::meeting::power` meets its contract.
-use borrow.Author.Rules.{rules}
 use Prim.Native.Nat.{◌^◌}
 use native.Mathlib.Omega.{arith}
 use native.Mathlib.Nat.{one-mul}

@@ -1,5 +1,4 @@
 -- `calculus::meeting::with_entry` meets its contract.
-use borrow.Author.Rules.{rules}
 use Rattle.calculus.proofs.Masks.MeetingMask.{mask_fits, mask_more, mask_still}
 use Rattle.calculus.proofs.meeting.with_entry.Goals as goal
 

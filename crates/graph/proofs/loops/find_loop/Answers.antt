@@ -1,5 +1,4 @@
 -- `graph::loops::find_loop` meets its contract.
-use borrow.Author.Rules.{rules}
 use mathlib.Core.Path.{sym, ◌∙◌}
 use Rattle.graph.proofs.Answers.LoopSearchAnswers.{refused}
 use Rattle.graph.proofs.loops.find_loop.Goals as goal
@@ -9,4 +8,4 @@ find_from-requires c = sym c.check_plan-checked.ensures.value ∙ c.in-Passed.is
 
 pub returns-in-Failed : goal.returns-in-Failed
 returns-in-Failed c =
-    let b = c in record { value = (refused b.args.plan.now b.args.state.0 _ (sym c.check_plan-checked.ensures.value ∙ c.in-Failed.is)).0; result_value = (refused b.args.plan.now b.args.state.0 _ (sym c.check_plan-checked.ensures.value ∙ c.in-Failed.is)).1; }
+    let b = c in record { value = (refused b.args.plan.now b.args.state.0 _ (sym c.check_plan-checked.ensures.value ∙ c.in-Failed.is)).0; result_value = (refused b.args.plan.now b.args.state.0 _ (sym c.check_plan-checked.ensures.value ∙ c.in-Failed.is)).1 }

@@ -2,79 +2,72 @@ use native.Mathlib.Omega.{arith}
 use mathlib.Core.Path.{◌≡◌, sym, ap, subst, ◌∙◌}
 use mathlib.Core.Bool.{Bool, true, false, ◌&&◌}
 use mathlib.Core.List.{List}
-use Prim.Native.Nat.{ℕ, ◌<◌, ◌≤◌, ◌+◌, ◌*◌, ◌-◌}
+use Prim.Native.Nat.{ℕ, ◌<◌, ◌≤◌, ◌+◌, ◌*◌}
 use lib.ListN.{length, get_or, set, length-set}
 use lib.Dec.{eqb, ltb}
-use borrow.Author.Tests.{not-true, not-false, ltb-true, ltb-false, eqb-true}
+use borrow.Author.Tests.{ltb-true, ltb-false, eqb-true}
 use Rattle.sheet.specs.Plan.{origin, label, target}
 use Rattle.sheet.proofs.Checks.Checks.{and_parts}
 use Rattle.graph.specs.Index.{firsts_at, actions_at}
 use Rattle.graph.specs.Search.{held, first_by_halving}
-use Rattle.graph.specs.Internal.Searching.{unseen, Visited}
+use Rattle.graph.specs.Internal.Searching.{Visited}
 use Rattle.graph.proofs.Search.Halving.{held_inside}
 use Rattle.graph.proofs.Search.ScanSteps.{Begun, Scanning, Turn, visited_open, scan_starts, fewer_unseen, scan_past, scan_found, scan_next, scan_ends}
 use Rattle.graph.proofs.searching.+visit.Goals as goal
+use Rattle.graph.proofs.searching.+visit.Goals.{After-loop-state, After-put, After-target_at-next, After-visit, At-loop-state, Else-is_done, In-loop-state, Start}
 
 -- the search has come to a state
-module _ (c : visit-lts.Start (claims t) (visit-at t) visit.Post invariant-loop decreases-loop) where
+module _ {t : ℕ} (c : Start t) where
   abbrev s : ℕ
   s = c.args.state.0
 
--- the search has come to a state
   abbrev before : List ℕ
   before = c.args.colours.now
 
--- the search has come to a state
   abbrev given : List ℕ
   given = c.args.index.now
 
--- the search has come to a state
   small : s < 256
   small = omega arith
 
--- the search has come to a state
   inside : s < length before
-  inside = omega (arith, c.requires.1.room, small)
+  inside = omega (arith, c.requires.room, small)
 
--- the search has come to a state
   new : (get_or before s 0 ≡ 1 → ⊥) → get_or before s 0 ≡ 0
-  new n = omega (arith, c.requires.1.not_done)
+  new n = omega (arith, c.requires.not_done)
 
 pub bounds-colours-at : goal.bounds-colours-at
-bounds-colours-at t c = small c
+bounds-colours-at t c = small (goal.at.bounds-colours-at t c).Start
 
 pub returns-then-colour-eq-OPEN : goal.returns-then-colour-eq-OPEN
 returns-then-colour-eq-OPEN t c = visited_open _ _ _ _ c.if-colour-eq-OPEN.true
 
 pub bounds-colours-at-2 : goal.bounds-colours-at-2
-bounds-colours-at-2 t c = small c
+bounds-colours-at-2 t c = small (goal.at.bounds-colours-at-2 t c).Start
 
 pub first_from-i-requires : goal.first_from-i-requires
-first_from-i-requires t c = c.requires.1.counted
+first_from-i-requires t c = c.requires.counted
 
 pub overflow_add-at : goal.overflow_add-at
-overflow_add-at t c = omega (arith, small c)
+overflow_add-at t c = omega (arith, small (goal.at.overflow_add-at t c).Start)
 
 pub put-requires : goal.put-requires
 put-requires t c =
     let b = c in
-    (omega (arith, small b), omega (arith, c.first_from-i.ensures.1, b.requires.1.counted.few))
+    (omega (arith, small (goal.at.put-requires t c).Start), omega (arith, c.first_from-i.ensures.1, b.requires.counted.few))
 
 -- its transitions begin
-module _ (c : visit-lts.After-put (claims t) (visit-at t) visit.Post invariant-loop decreases-loop) where
-  abbrev start : visit-lts.Start (claims t) (visit-at t) visit.Post invariant-loop decreases-loop
-  start = c
+module _ {t : ℕ} (c : After-put t) where
+  abbrev start : Start t
+  start = (goal.at.After-put t c).Start
 
--- its transitions begin
   abbrev plan : List ℕ
   plan = start.args.plan.now
 
--- its transitions begin
   first : c.first_from-i.result ≡ first_by_halving plan (s start)
   first = c.first_from-i.ensures.0
 
--- its transitions begin
-  begun : Begun plan (s start) (given start) (before start) c.put.new.0
+  begun : Begun plan (s start) (given start) (before start) c.put.new.index
   begun = record {
     inside = inside start;
     unseen_yet = new start c.if-colour-eq-OPEN.false;
@@ -82,59 +75,48 @@ module _ (c : visit-lts.After-put (claims t) (visit-at t) visit.Post invariant-l
   }
 
 pub loop-state-init : goal.loop-state-init
-loop-state-init t c = scan_starts _ _ _ _ _ (first c) (omega (arith, c.first_from-i.ensures.1, (start c).requires.1.counted.is_held))
+loop-state-init t c = scan_starts _ _ _ _ _ (first c) (omega (arith, c.first_from-i.ensures.1, (start c).requires.counted.is_held))
 
 -- the loop's head
-module _ (c : visit-lts.At-loop (claims t) (visit-at t) visit.Post invariant-loop decreases-loop) where
-  abbrev top : visit-lts.Start (claims t) (visit-at t) visit.Post invariant-loop decreases-loop
-  top = start c
+module _ {t : ℕ} (c : At-loop-state t) where
+  abbrev top : Start t
+  top = start (goal.at.At-loop-state t c).After-put
 
--- the loop's head
   few : (c.loop-state.i ≤ top.args.count) × (top.args.count < 65536)
-  few = (omega (arith, c.loop-state.invariant.before_end, top.pre.1.counted.is_held), top.pre.1.counted.few)
+  few = (omega (arith, c.loop-state.invariant.before_end, top.requires.counted.is_held), top.requires.counted.few)
 
--- the loop's head
   -- the scan as it stands
   abbrev Scanned : ℕ → List ℕ → List ℕ → Type 0
-  Scanned i index colours = Scanning (plan c) (s top) c.put.new.0 (set (before top) (s top) 1) i index colours
+  Scanned i index colours = Scanning (plan (goal.at.At-loop-state t c).After-put) (s top) c.put.new.index (set (before top) (s top) 1) i index colours
 
 pub is_from-requires : goal.is_from-requires
-is_from-requires t c = (top c).requires.1.counted
+is_from-requires t c = (top c).requires.counted
 
 -- transition i is one of the state's
-module _ (c : visit-lts.Then2 (claims t) (visit-at t) visit.Post invariant-loop decreases-loop) where
-  abbrev head : visit-lts.At-loop (claims t) (visit-at t) visit.Post invariant-loop decreases-loop
-  head = c
+module _ {t : ℕ} (c : In-loop-state t) where
+  abbrev head : At-loop-state t
+  head = (goal.at.In-loop-state t c).At-loop-state
 
--- transition i is one of the state's
   abbrev here : ℕ
-  here = head.loop.i
+  here = head.loop-state.i
 
--- transition i is one of the state's
-  tests : (ltb here (top head).args.count ≡ true) × (eqb (origin (plan head) here) (s (top head)) ≡ true)
+  tests : (ltb here (top head).args.count ≡ true) × (eqb (origin (plan (goal.at.At-loop-state t head).After-put) here) (s (top head)) ≡ true)
   tests = and_parts _ _ (sym c.is_from.ensures ∙ c.loop-state-test.true)
 
--- transition i is one of the state's
   below : here < (top head).args.count
   below = ltb-true here (top head).args.count tests.0
 
--- transition i is one of the state's
-  more : here < held (plan head)
-  more = omega (arith, below, (top head).pre.1.counted.is_held)
+  more : here < held (plan (goal.at.At-loop-state t head).After-put)
+  more = omega (arith, below, (top head).requires.counted.is_held)
 
--- transition i is one of the state's
-  from : origin (plan head) here ≡ s (top head)
-  from = eqb-true (origin (plan head) here) (s (top head)) tests.1
+  from : origin (plan (goal.at.At-loop-state t head).After-put) here ≡ s (top head)
+  from = eqb-true (origin (plan (goal.at.At-loop-state t head).After-put) here) (s (top head)) tests.1
 
--- transition i is one of the state's
-  there : 6 + 3 * here < length (plan head)
-  there = held_inside (plan head) here more
+  there : 6 + 3 * here < length (plan (goal.at.At-loop-state t head).After-put)
+  there = held_inside (plan (goal.at.At-loop-state t head).After-put) here more
 
 pub label_at-action-requires : goal.label_at-action-requires
 label_at-action-requires t c = there c
-
-pub wide-requires : goal.wide-requires
-wide-requires t c = tt
 
 pub overflow_add-wide : goal.overflow_add-wide
 overflow_add-wide t c = omega (arith, c.wide.ensures.1)
@@ -143,155 +125,134 @@ pub put-requires-in-loop-state : goal.put-requires-in-loop-state
 put-requires-in-loop-state t c = (omega (arith, c.wide.ensures.1), omega arith)
 
 pub target_at-next-requires : goal.target_at-next-requires
-target_at-next-requires t c = there c
+target_at-next-requires t c = there (goal.at.target_at-next-requires t c).In-loop-state
 
 -- its action is noted, and its target read
-module _ (c : visit-lts.After-target-at (claims t) (visit-at t) visit.Post invariant-loop decreases-loop) where
-  abbrev then : visit-lts.Then2 (claims t) (visit-at t) visit.Post invariant-loop decreases-loop
-  then = c
+module _ {t : ℕ} (c : After-target_at-next t) where
+  abbrev then : In-loop-state t
+  then = (goal.at.After-target_at-next t c).In-loop-state
 
--- its action is noted, and its target read
-  abbrev round : visit-lts.At-loop (claims t) (visit-at t) visit.Post invariant-loop decreases-loop
+  abbrev round : At-loop-state t
   round = head then
 
--- its action is noted, and its target read
   abbrev noted : List ℕ
-  noted = c.put-in-loop-state.new.0
+  noted = c.put-in-loop-state.new.index
 
--- its action is noted, and its target read
   abbrev next : ℕ
   next = c.target_at-next.result.0
 
--- its action is noted, and its target read
-  labelled : c.wide.result ≡ label (plan round) (here then)
+  labelled : c.wide.result ≡ label (plan (goal.at.At-loop-state t round).After-put) (here then)
   labelled = c.wide.ensures.0 ∙ c.label_at-action.ensures
 
--- its action is noted, and its target read
-  turn : Turn (plan round) (s (top round)) (here then) round.loop.index noted
+  turn : Turn (plan (goal.at.At-loop-state t round).After-put) (s (top round)) (here then) round.loop-state.index noted
   turn = record {
     more = more then;
     from = from then;
-    is_noted = c.put-in-loop-state.ensures ∙ ap (λ (k : ℕ). set round.loop.index (actions_at + k) 1) labelled;
+    is_noted = c.put-in-loop-state.ensures ∙ ap (λ (k : ℕ). set round.loop-state.index (actions_at + k) 1) labelled;
   }
 
--- its action is noted, and its target read
-  goal : next ≡ target (plan round) (here then)
-  goal = c.target_at-next.ensures
+  goal_is : next ≡ target (plan (goal.at.At-loop-state t round).After-put) (here then)
+  goal_is = c.target_at-next.ensures
 
--- its action is noted, and its target read
-  past : ltb 1 (get_or round.loop.colours next 0) ≡ true → Scanned round (here then + 1) noted round.loop.colours
-  past e = scan_past (begun round) round.loop.inv turn (subst (λ (k : ℕ). 1 < get_or round.loop.colours k 0) goal (ltb-true 1 _ e))
-
-pub is_done-requires : goal.is_done-requires
-is_done-requires t c = tt
+  past : ltb 1 (get_or round.loop-state.colours next 0) ≡ true → Scanned round (here then + 1) noted round.loop-state.colours
+  past e = scan_past (begun (goal.at.At-loop-state t round).After-put) round.loop-state.invariant turn (subst (λ (k : ℕ). 1 < get_or round.loop-state.colours k 0) goal_is (ltb-true 1 _ e))
 
 pub overflow_add-i : goal.overflow_add-i
-overflow_add-i t c = omega (arith, few (round c))
+overflow_add-i t c = omega (arith, few (round (goal.at.overflow_add-i t c).After-target_at-next))
 
 pub loop-state-smaller-then-is_done : goal.loop-state-smaller-then-is_done
-loop-state-smaller-then-is_done t c = omega (arith, below (then c))
+loop-state-smaller-then-is_done t c = omega (arith, below (then (goal.at.loop-state-smaller-then-is_done t c).After-target_at-next))
 
 pub loop-state-preserved-then-is_done : goal.loop-state-preserved-then-is_done
-loop-state-preserved-then-is_done t c = past c (sym c.is_done.ensures ∙ c.if-is_done.true)
+loop-state-preserved-then-is_done t c = past (goal.at.loop-state-preserved-then-is_done t c).After-target_at-next (sym c.is_done.ensures ∙ c.if-is_done.true)
 
 -- the target is not done
-module _ (c : visit-lts.Else3 (claims t) (visit-at t) visit.Post invariant-loop decreases-loop) where
-  abbrev read : visit-lts.After-target-at (claims t) (visit-at t) visit.Post invariant-loop decreases-loop
-  read = c
+module _ {t : ℕ} (c : Else-is_done t) where
+  abbrev read : After-target_at-next t
+  read = (goal.at.Else-is_done t c).After-target_at-next
 
--- the target is not done
   not_done : get_or (round read).loop-state.colours (next read) 0 ≤ 1
   not_done = ltb-false 1 _ (sym c.is_done.ensures ∙ c.if-is_done.false)
 
 pub visit-requires : goal.visit-requires
 visit-requires t c =
-    let l = round (read c) in (
-      omega (arith, (top l).pre.0, l.loop.inv.none_forgotten, fewer_unseen (begun l)),
+    let l = round (read (goal.at.visit-requires t c).Else-is_done) in (
+      omega (arith, (top l).decreases, l.loop-state.invariant.none_forgotten, fewer_unseen (begun (goal.at.At-loop-state t l).After-put)),
       record {
-        counted = (top l).pre.1.counted;
-        room = l.loop.inv.same_length ∙ (simp length-set (top l).pre.1.room);
-        not_done = not_done c;
+        counted = (top l).requires.counted;
+        room = l.loop-state.invariant.same_length ∙ (simp length-set (top l).requires.room);
+        not_done = not_done (goal.at.visit-requires t c).Else-is_done;
       },
     )
 
 -- the target is searched
-module _ (c : visit-lts.After-visit (claims t) (visit-at t) visit.Post invariant-loop decreases-loop) where
-  abbrev other : visit-lts.Else3 (claims t) (visit-at t) visit.Post invariant-loop decreases-loop
-  other = c
+module _ {t : ℕ} (c : After-visit t) where
+  abbrev other : Else-is_done t
+  other = (goal.at.After-visit t c).Else-is_done
 
--- the target is searched
-  abbrev at : visit-lts.At-loop (claims t) (visit-at t) visit.Post invariant-loop decreases-loop
+  abbrev at : At-loop-state t
   at = round (read other)
 
--- the target is searched
   abbrev goes : ℕ
-  goes = target (plan at) at.loop.i
+  goes = target (plan (goal.at.At-loop-state t at).After-put) at.loop-state.i
 
--- the target is searched
   abbrev index'' : List ℕ
-  index'' = c.visit.new.1.1.0
+  index'' = c.visit.new.index
 
--- the target is searched
   abbrev after : List ℕ
-  after = c.visit.new.1.1.1.0
+  after = c.visit.new.colours
 
--- the target is searched
   -- what the inner search left, and how it was answered
   abbrev Inner : ℕ → Bool → Type 0
-  Inner u r = Visited (plan at) (noted (read other)) at.loop.colours index'' after u r
+  Inner u r = Visited (plan (goal.at.At-loop-state t at).After-put) (noted (read other)) at.loop-state.colours index'' after u r
 
--- the target is searched
   got : {r : Bool} → c.visit.result ≡ r → Inner goes r
-  got e = subst (Inner goes) e (subst (λ (u : ℕ). Inner u c.visit.result) (goal (read other)) c.visit.ensures)
+  got e = subst (Inner goes) e (subst (λ (u : ℕ). Inner u c.visit.result) (goal_is (read other)) c.visit.ensures)
 
--- the target is searched
-  low : get_or at.loop.colours goes 0 ≤ 1
-  low = subst (λ (k : ℕ). get_or at.loop.colours k 0 ≤ 1) (goal (read other)) (not_done other)
+  low : get_or at.loop-state.colours goes 0 ≤ 1
+  low = subst (λ (k : ℕ). get_or at.loop-state.colours k 0 ≤ 1) (goal_is (read other)) (not_done other)
 
--- the target is searched
-  found : c.visit.result ≡ false → Visited (plan at) (given (top at)) (before (top at)) index'' after (s (top at)) false
-  found e = scan_found (begun at) at.loop.inv (turn (read other)) low (got e)
+  found : c.visit.result ≡ false → Visited (plan (goal.at.At-loop-state t at).After-put) (given (top at)) (before (top at)) index'' after (s (top at)) false
+  found e = scan_found (begun (goal.at.At-loop-state t at).After-put) at.loop-state.invariant (turn (read other)) low (got e)
 
--- the target is searched
-  went_on : c.visit.result ≡ true → Scanned at (at.loop.i + 1) index'' after
-  went_on e = scan_next (begun at) at.loop.inv (turn (read other)) low (got e)
+  went_on : c.visit.result ≡ true → Scanned at (at.loop-state.i + 1) index'' after
+  went_on e = scan_next (begun (goal.at.At-loop-state t at).After-put) at.loop-state.invariant (turn (read other)) low (got e)
 
 pub returns-then-not-visit : goal.returns-then-not-visit
-returns-then-not-visit t c = found c (c.if-not-visit.true)
+returns-then-not-visit t c = found (goal.at.returns-then-not-visit t c).After-visit (c.if-not-visit.true)
 
 pub overflow_add-i-in-loop-state : goal.overflow_add-i-in-loop-state
-overflow_add-i-in-loop-state t c = omega (arith, few (at c))
+overflow_add-i-in-loop-state t c = omega (arith, few (at (goal.at.overflow_add-i-in-loop-state t c).After-visit))
 
 pub loop-state-smaller : goal.loop-state-smaller
-loop-state-smaller t c = omega (arith, below (then (read (other c))))
+loop-state-smaller t c = omega (arith, below (then (read (other (goal.at.loop-state-smaller t c).After-visit))))
 
 pub loop-state-preserved : goal.loop-state-preserved
-loop-state-preserved t c = went_on c (c.if-not-visit.false)
+loop-state-preserved t c = went_on (goal.at.loop-state-preserved t c).After-visit (c.if-not-visit.false)
 
 pub overflow_add-at-2 : goal.overflow_add-at-2
-overflow_add-at-2 t c = omega (arith, small (top c))
+overflow_add-at-2 t c = omega (arith, small (top (goal.at.overflow_add-at-2 t c).At-loop-state))
 
 pub overflow_add-at-3 : goal.overflow_add-at-3
-overflow_add-at-3 t c = omega (arith, small (top c))
+overflow_add-at-3 t c = omega (arith, small (top (goal.at.overflow_add-at-3 t c).At-loop-state))
 
 pub put-requires-2 : goal.put-requires-2
-put-requires-2 t c = (omega (arith, small (top c)), omega (arith, few c))
+put-requires-2 t c = (omega (arith, small (top (goal.at.put-requires-2 t c).At-loop-state)), omega (arith, few (goal.at.put-requires-2 t c).At-loop-state))
 
 pub bounds-colours-at-3 : goal.bounds-colours-at-3
-bounds-colours-at-3 t c = small (top c)
+bounds-colours-at-3 t c = small (top (goal.at.bounds-colours-at-3 t c).At-loop-state)
 
 -- transition i is none of the state's
-module _ (c : visit-lts.Else2 (claims t) (visit-at t) visit.Post invariant-loop decreases-loop) where
+module _ {t : ℕ} (c : After-loop-state t) where
   abbrev tested : ℕ → Bool
   tested k =
       let l = c in
-      ltb l.loop-state.i k && eqb (origin (plan l) l.loop-state.i) (s (top l))
+      ltb l.loop-state.i k && eqb (origin (plan (goal.at.After-loop-state t c).After-put) l.loop-state.i) (s (top (goal.at.After-loop-state t c).At-loop-state))
 
--- transition i is none of the state's
-  none : tested (held (plan c)) ≡ false
-  none = ap tested (sym (top c).pre.1.counted.is_held) ∙ (sym c.is_from.ensures ∙ c.loop-state-test.false)
+  none : tested (held (plan (goal.at.After-loop-state t c).After-put)) ≡ false
+  none = ap tested (sym (top (goal.at.After-loop-state t c).At-loop-state).requires.counted.is_held) ∙ (sym c.is_from.ensures ∙ c.loop-state-test.false)
 
 pub returns : goal.returns
 returns t c =
     let l = c in
-    scan_ends (begun l) l.loop-state.invariant (none c) c.put-2.ensures
+    scan_ends (begun (goal.at.returns t c).After-put) l.loop-state.invariant (none (goal.at.returns t c).After-loop-state) c.put-2.ensures

@@ -1,5 +1,4 @@
 -- `graph::searching::count_held` meets its contract.
-use borrow.Author.Rules.{rules}
 use native.Mathlib.Omega.{arith}
 use mathlib.Core.Path.{refl, ◌∙◌}
 use Rattle.graph.proofs.Search.Halving.{held_short, held_whole, held_stated}

@@ -1,6 +1,6 @@
 use native.Mathlib.Omega.{arith}
-use Prim.Native.Nat.{◌+◌, ◌-◌, ◌/◌}
-use Rattle.graph.proofs.Search.Halving.{held_inside, Halving, halving_starts, halving_up, halving_down, halving_ends}
+use Prim.Native.Nat.{◌+◌, ◌/◌}
+use Rattle.graph.proofs.Search.Halving.{held_inside, halving_starts, halving_up, halving_down, halving_ends}
 use Rattle.graph.proofs.searching.first_from.Goals as goal
 
 pub loop-low-init : goal.loop-low-init

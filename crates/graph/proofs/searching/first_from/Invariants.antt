@@ -1,7 +1,6 @@
 -- `graph::searching::first_from` meets its contract. Of the loop: what is left to halve finds the same.
-use native.Mathlib.Omega.{arith}
-use Prim.Native.Nat.{◌+◌, ◌-◌, ◌/◌}
-use Rattle.graph.proofs.Search.Halving.{held_inside, Halving, halving_starts, halving_up, halving_down, halving_ends}
+use Prim.Native.Nat.{◌-◌}
+use Rattle.graph.proofs.Search.Halving.{Halving}
 use Rattle.graph.proofs.searching.first_from.Given as goal
 
 abbrev pub invariant-loop-low : goal.invariant-loop-low

@@ -1,5 +1,4 @@
 -- `graph::searching::is_done` meets its contract.
-use borrow.Author.Rules.{rules}
 use mathlib.Core.Path.{refl}
 use Rattle.graph.proofs.searching.is_done.Goals as goal
 

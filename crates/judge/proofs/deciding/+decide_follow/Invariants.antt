@@ -1,0 +1,20 @@
+-- The measures: of deciding twice the falling number of the cell, of following a number between those of the state's cells and of the cells
+-- that it calls on. Of the loop: what is left to walk along leaves what the whole does.
+use Rattle.std.proofs.Common.{◌*◌, ◌-◌}
+use Rattle.judge.specs.Cells.{cell}
+use Rattle.judge.proofs.Steps.DecideSteps.{rank_at}
+use Rattle.judge.proofs.Steps.FollowWalk.{WalkedTo}
+use Rattle.judge.proofs.Steps.Turns.{walk_rank}
+use Rattle.judge.proofs.deciding.+decide_follow.Given as goal
+
+abbrev pub decreases-decide : goal.decreases-decide
+decreases-decide l = 2 * rank_at l.sheet.now (cell l.mark l.node.0 l.state.0)
+
+abbrev pub decreases-follow : goal.decreases-follow
+decreases-follow l = walk_rank l.sheet.now l.state.0
+
+abbrev pub invariant-follow-loop-i : goal.invariant-follow-loop-i
+invariant-follow-loop-i l = WalkedTo l.sheet l.initial.table l.n l.from l.initial.i l.end l.i l.sum l.table
+
+abbrev pub decreases-follow-loop-i : goal.decreases-follow-loop-i
+decreases-follow-loop-i l = l.end - l.i
