@@ -5,6 +5,7 @@ docs/RECORDINGS.md, docs/AUDIT.md, docs/ALLOWANCE.md and docs/CLOSEST.md and not
 
     cases.py store DIR             DIR/stdin and DIR/stdout: the vectors of tests/vectors, then the
                                    cases of tests/inputs
+    cases.py searches DIR          the vectors and cases of request 17, which are not stored yet
     cases.py large DIR             longer and random cases, for a run that is not stored
     cases.py check STDIN STDOUT    recomputes STDOUT from STDIN
     cases.py runs COUNT            so many random patterns: what each becomes holds by Table 1 at
@@ -25,7 +26,7 @@ from inputs.chance import (
     random_change, random_filling, random_line, random_sentence, random_sheet, random_states)
 from inputs.parts import T, counted, plan, rule
 from inputs.pattern_parts import body_of, with_rule
-from inputs.streams import CUT, ENDING, large, stored
+from inputs.streams import CUT, ENDING, large, stored, stored_searches
 from oracle.audits import audit, filled_cells
 from oracle.line_actions import actions_said, refusal_of
 from oracle.lines import line_body
@@ -36,11 +37,14 @@ from oracle.sheet import Refused, sheet_of
 from oracle.table1 import meaning
 
 VECTORS = Path(__file__).parent / 'vectors'
+NOT_STORED = ('m',)  # request 17 is not among the stored trials yet
 
 
-def vectors():
+def vectors(stored=True):
     """the stored requests with their answers, which have to be the oracle's"""
     for stdin in sorted(VECTORS.glob('*.stdin')):
+        if (stdin.stem in NOT_STORED) == stored:
+            continue
         found = list(answered(stdin.read_bytes()))
         text = b''.join(text for _, text in found)
         assert text == stdin.with_suffix('.stdout').read_bytes(), stdin
@@ -154,6 +158,9 @@ def main(args):
         numbers = bytes(map(int, args.pop().split(',')))
     if args[:1] == ['store'] and len(args) == 2:
         put(args[1], [*vectors(), *answered(b''.join(stored()))], ENDING, numbers)
+        return 0
+    if args[:1] == ['searches'] and len(args) == 2:
+        put(args[1], [*vectors(False), *answered(b''.join(stored_searches()))], ENDING, numbers)
         return 0
     if args[:1] == ['large'] and len(args) == 2:
         put(args[1], answered(b''.join(large())), CUT, numbers)

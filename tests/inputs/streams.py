@@ -75,6 +75,10 @@ def stored():
     yield from audits()
     yield from expected(*allowances_to_try())
     yield from allowances()
+
+
+# request 17, which the trial driver's stored input does not have yet
+def stored_searches():
     yield from expected(*searches_to_try())
     yield from searches()
 

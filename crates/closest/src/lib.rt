@@ -1,5 +1,7 @@
 // The closest state that breaks the rule: of the states that can be reached from state 0, the one with the fewest steps at which the rule of a sheet
 // fails, by the judge's queries in turn, and one shortest way from state 0 to a state, which needs no table.
+#![tactic(auto)]
+
 mod distances;
 pub mod finding;
 mod layers;

@@ -1,5 +1,5 @@
 -- The answer of the call and the table that it leaves, by queries of the reachable states in turn.
-use Prim.Native.Nat.{ℕ, suc, ◌+◌, ◌-◌, ◌<◌, ◌≤◌}
+use Prim.Native.Nat.{ℕ, suc, ◌-◌, ◌<◌, ◌≤◌}
 use mathlib.Core.Path.{◌≡◌, refl, sym, ap, ap₂, subst, ◌∙◌}
 use mathlib.Core.Bool.{Bool, true, false, ◌&&◌}
 use mathlib.Core.List.{List, [], ◌∷◌, ◌++◌}
@@ -18,14 +18,13 @@ use Rattle.sheet.specs.declared.Check.TheVariants.{Passed, Failed}
 use Rattle.sheet.specs.declared.Refusal.{Refusal}
 use Rattle.sheet.proofs.Acceptance.Parts.{bodies_kept}
 use Rattle.graph.specs.LoopTest.{all_pass, settled, loop_free}
-use Rattle.graph.specs.Search.{most_states}
 use Rattle.graph.specs.Successors.{successors}
 use Rattle.graph.proofs.Looptest.Height.{successor_settled}
 use Rattle.rows.specs.Tables.{visits}
 use Rattle.rows.proofs.Systems.Systems.{Each}
 use Rattle.rows.proofs.Systems.Fuel.{each_map}
 use Rattle.judge.specs.Querying.{query_check, count_right, left_by}
-use Rattle.judge.specs.InTurn.{in_turn_check, holds_by, result_in_turn, passed_before, answer_in_turn, in_turn_of, table_in_turn, QueriesInTurn}
+use Rattle.judge.specs.InTurn.{in_turn_check, holds_by, passed_before, answer_in_turn, in_turn_of, table_in_turn, QueriesInTurn}
 use Rattle.judge.proofs.Lists.SheetLists.{Takes, Fine, query_passes, count_passes}
 use Rattle.judge.specs.declared.InTurn.{InTurn}
 use Rattle.judge.specs.declared.InTurn.TheVariants.{Judged, WrongCount as TurnWrongCount, Refused as TurnRefused}

@@ -1,5 +1,5 @@
 -- Queries in turn are calls of `query`, one after the other up to the first whose verdict is false.
-use Prim.Native.Nat.{ℕ, ◌+◌, ◌≤◌}
+use Prim.Native.Nat.{ℕ, ◌+◌}
 use mathlib.Core.Path.{◌≡◌, refl, sym, ap, ap₂, ◌∙◌}
 use mathlib.Core.Bool.{Bool, true, false}
 use mathlib.Core.List.{List, [], ◌∷◌, ◌++◌}
@@ -14,7 +14,7 @@ use Rattle.rows.specs.Tables.{Result, out, verdict, visits, table, query}
 use Rattle.rows.specs.Internal.Solver.{walk, after}
 use Rattle.rows.proofs.Systems.Systems.{Each}
 use Rattle.rows.proofs.Systems.Fuel.{each_map}
-use Rattle.rows.proofs.Systems.Goals.{solution}
+use Rattle.rows.proofs.Systems.Needs.{solution}
 use Rattle.rows.proofs.Tables.Extension.{Extends, extension_value}
 use Rattle.rows.proofs.Solver.Solved.{query_right}
 use Rattle.rows.proofs.Solver.Solver.{walk_decided, walk_on}

@@ -1,6 +1,6 @@
 -- Of an "and" of the cells of states in order, those that are looked at are the ones up to the answer.
 use Prim.Native.Nat.{ℕ}
-use mathlib.Core.Path.{◌≡◌, refl, sym, ap, subst, ◌∙◌}
+use mathlib.Core.Path.{◌≡◌, refl, sym, ap, subst}
 use mathlib.Core.Bool.{Bool, true, false, true≢false}
 use mathlib.Core.List.Memᴰ
 use mathlib.Core.List.{List, [], ◌∷◌, Memᴰ}
@@ -50,6 +50,7 @@ module _ (v : Cell → Bool) where
 
   pub looked_up_to : {l : List Reached} → InOrder l → {c : Cell} → LookedAt conjunction v c (root_cells (states_of l)) → Looked l c
   unfolding first_failing
+  looked_up_to none {c = c} h = elim h [ ]
   looked_up_to (next {x = x} {l = l} after i) now = record { by = x; cell_is = refl; listed = Memᴰ.head refl; up_to = here (holds x.state) (first_failing holds l) refl }
     where
       here : (b : Bool) (f : Found) → first_failing holds l ≡ f → UpTo (pick b f (fails_at x)) x
@@ -96,6 +97,7 @@ module _ (v : Cell → Bool) where
 
   pub looked_failing : (l : List ℕ) {c : Cell} → LookedAt conjunction v c (root_cells l) → Memᴰ c.state (up_to_failing holds l)
   unfolding up_to_failing
+  looked_failing [] {c = c} h = elim h [ ]
   looked_failing (y ∷ l) now = Memᴰ.head refl
   looked_failing (y ∷ l) {c} (later q h) =
       Memᴰ.tail (subst (λ (b : Bool). Memᴰ c.state (pick b (up_to_failing holds l) [])) (sym (undecided (holds y) q)) (looked_failing l h))

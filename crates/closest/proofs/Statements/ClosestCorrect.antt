@@ -3,7 +3,7 @@ use Prim.Native.Nat.{ℕ, ◌≤◌}
 use mathlib.Core.Path.{◌≡◌, refl, sym, ap, ap₂, subst, subst₂, ◌∙◌}
 use mathlib.Core.Bool.{Bool, true, false, ◌&&◌}
 use mathlib.Core.List.{List, []}
-use mathlib.Core.Logic.{◌⊎◌, ◌↔◌, ◌≢◌, inl, inr}
+use mathlib.Core.Logic.{◌↔◌, ◌≢◌, inl, inr}
 use native.Mathlib.Omega.{arith}
 use native.Mathlib.Decide.{ℕ_discrete}
 use borrow.Author.Tests.{lt-ltb}
@@ -21,22 +21,18 @@ use Rattle.graph.specs.Successors.{successors}
 use Rattle.graph.proofs.Looptest.LoopFree.{free_exactly_at}
 use Rattle.rows.specs.Tables.{query, verdict, visits}
 use Rattle.calculus.specs.Verdict.{Verdict}
-use Rattle.judge.specs.CallNumbers.{CellsRight}
-use Rattle.judge.specs.Clearing.{reported_clear, Clears}
-use Rattle.judge.specs.StoredCount.{stored_count, filled_cells}
 use Rattle.judge.specs.Querying.{query_check, count_right, result_of, answer_queried, queried_of, QueryReport, reported_query, query_report_of, left_by, table_queried, Queries}
 use Rattle.judge.specs.InTurn.{holds_by}
 use Rattle.judge.specs.Lists.{Calls, none as no-calls}
 use Rattle.judge.specs.Demand3.{RefusedState}
 use Rattle.judge.specs.Auditing.{AuditReport, reported_audit, audited_of, Audits}
 use Rattle.judge.specs.AuditCorrect.{TableSolved}
-use Rattle.judge.specs.declared.Cleared.{Cleared}
 use Rattle.judge.specs.declared.Queried.{Queried}
 use Rattle.judge.specs.declared.Audited.{Audited}
 use Rattle.judge.proofs.Lists.SheetLists.{Takes, Fine, judged_report}
 use Rattle.judge.proofs.Statements.AuditCorrect.{audits_correct}
 use Rattle.judge.proofs.Statements.CallNumbers.{call_numbers}
-use Rattle.closest.specs.Finding.{Found, everywhere, fails_at, closest_found, searched, answer_found, answer_closest, closest_of, table_searched, ClosestReport, reported_closest, refused_report, Finds}
+use Rattle.closest.specs.Finding.{Found, everywhere, fails_at, closest_found, searched, answer_closest, closest_of, table_searched, ClosestReport, reported_closest, refused_report, Finds}
 use Rattle.closest.specs.ClosestCorrect.{ReachableState, RightlyFound, ClosestCorrect, AsQueries, ByTable1, SearchesCorrect}
 use Rattle.closest.specs.declared.Closest.{Closest}
 use Rattle.closest.proofs.Statements.SearchCorrect.{report_of, reached_taken, rightly_found, correct, as_queries}

@@ -1,7 +1,7 @@
 -- A search that is not refused: what is found, the cells filled, and that it is as queries in a row.
-use Prim.Native.Nat.{ℕ, suc, ◌+◌, ◌<◌, ◌≤◌}
+use Prim.Native.Nat.{ℕ, suc, ◌+◌, ◌≤◌}
 use mathlib.Core.Path.{◌≡◌, refl, sym, ap, ap₂, subst, ◌∙◌}
-use mathlib.Core.Bool.{Bool, true, false, true≢false}
+use mathlib.Core.Bool.{Bool, true, true≢false}
 use mathlib.Core.List.{List, [], ◌∷◌, ◌++◌, Memᴰ}
 use mathlib.Core.Logic.{◌⊎◌, ◌↔◌, inl, inr}
 use native.Mathlib.Omega.{arith}
@@ -13,25 +13,24 @@ use Rattle.sheet.specs.WellFormed.{WellFormedPlan}
 use Rattle.sheet.specs.declared.Check.TheVariants.{Passed}
 use Rattle.sheet.proofs.Acceptance.Parts.{bodies_kept}
 use Rattle.graph.specs.LoopTest.{loop_free}
-use Rattle.rows.specs.Rows.{conjunction, Needed, value, need}
-use Rattle.rows.specs.Tables.{byte_at, filled, count, among, fills, visits, table}
+use Rattle.rows.specs.Rows.{conjunction, need}
+use Rattle.rows.specs.Tables.{byte_at, filled, count, among, visits, table}
 use Rattle.rows.proofs.Systems.Systems.{Each}
-use Rattle.rows.proofs.Systems.Fuel.{each_map}
 use Rattle.rows.proofs.Tables.Counting.{count_cong, count_le}
 use Rattle.rows.proofs.Tables.Filling.{fill, fill_length, fill_filled}
-use Rattle.judge.specs.Cells.{Cell, cell, enough, position_of, cell_bytes, table_bytes, cells_in, InTable}
-use Rattle.judge.specs.StoredCount.{stored_count, filled_cells, table_with, HoldsCount}
-use Rattle.judge.specs.OneSolution.{changed_rows, ComesTo, OneSolution}
+use Rattle.judge.specs.Cells.{Cell, cell, enough, position_of, cell_bytes, cells_in, InTable}
+use Rattle.judge.specs.StoredCount.{stored_count, table_with, HoldsCount}
+use Rattle.judge.specs.OneSolution.{changed_rows}
 use Rattle.judge.specs.Querying.{left_by}
 use Rattle.judge.specs.Lists.{Calls}
 use Rattle.judge.specs.InTurn.{solution_by, holds_by, root_cells, needed_in_turn}
-use Rattle.judge.proofs.Cells.CountLayout.{cells_byte, cells_length, filled_cells_lem, count_layout}
+use Rattle.judge.proofs.Cells.CountLayout.{cells_length, filled_cells_lem, count_layout}
 use Rattle.judge.proofs.Lists.SheetLists.{Takes, takes_valid, Fine, query_passes, count_passes}
 use Rattle.judge.proofs.Lists.FilledTables.{solved, left_byte, newly_filled, needed_filled, others_same}
 use Rattle.judge.proofs.Statements.LargestTable.{every_table_fits}
 use Rattle.judge.proofs.Statements.NeededCells.{needed_at, at_needed}
 use Rattle.judge.proofs.Statements.OneSolution.{Settled, changed_falls, comes_on, comes_settled, solves}
-use Rattle.closest.specs.Steps.{WayOf, Steps, Earlier, Reached, reached_at, layers_from, reachable_states}
+use Rattle.closest.specs.Steps.{Steps, Earlier, Reached, reached_at, layers_from, reachable_states}
 use Rattle.closest.specs.Finding.{Found, everywhere, fails_at, states_of, states_in_order, closest_found, searched, answer_found, table_searched, ClosestReport, reported_closest}
 use Rattle.closest.specs.ClosestCorrect.{ReachableState, RightlyFound, TakenBy, ComesFromReachable, NeededByTaken, ClosestCorrect, AsQueries}
 use Rattle.closest.proofs.Ways.Order.{Led, order_each, listed, states_in_order_lem, Says, says}

@@ -5,7 +5,7 @@ use mathlib.Core.List.{List, [], ◌∷◌, ◌++◌, Memᴰ}
 use native.Mathlib.Omega.{arith}
 use lib.ListN.{length, drop, length-append, length-drop}
 use lib.Seq.{take_at, drop_at}
-use Rattle.sheet.specs.Plan.{origin, target}
+use Rattle.sheet.specs.Plan.{origin}
 use Rattle.sheet.specs.TransitionSystem.{LabelledTransition, transition_of, plan_of}
 use Rattle.sheet.proofs.TransitionSystem.{at_member}
 use Rattle.graph.proofs.Looptest.Successors.{target_among}
