@@ -1,3 +1,3 @@
 pub mod Demand2
-pub mod Answers
+pub mod WordAnswers
 pub mod Examples

@@ -8,7 +8,7 @@ use native.Mathlib.Omega.{arith}
 use lib.ListN.{get_or}
 use lib.Bits.{bit_and, bit_or, bit_xor}
 use Rattle.sheet.specs.Contents.{plan_body, actions_body, rule_body}
-use Rattle.sheet.specs.Plan.{state_count, action_count, transition_count, origin, label, target}
+use Rattle.sheet.specs.Plan.{state_count, action_count, transition_count, label, target}
 use Rattle.sheet.specs.Actions.{entry_count}
 use Rattle.sheet.specs.Rule.{node_count, node_kind, node_x, node_y, binders_before}
 use Rattle.sheet.specs.WellFormed.{WellFormedRule, WellFormedPlan}

@@ -83,7 +83,7 @@ module _ {t : ℕ} (c : decide-After-kind_of-k t) where
   here = found byte
 
   empty : get_or (table begun) byte.cell_position-at.result 0 ≡ 0
-  empty = c.if-filled-ne0.false
+  empty = omega arith
 
   kind : c.kind_of-k.result ≡ its_kind begun
   kind = c.kind_of-k.ensures

@@ -19,7 +19,7 @@ returns-then-expected-filled c = let start = c in
     let t = start.args.table.now in
     let told = told_filled start.args.sheet.now t long _ c.scan-scanned.ensures size c.in-Filled.is in
     answers_miscounted start.requires t long told.0
-    (λ e. c.if-expected-filled.true (c.wide_u32-expected.ensures ∙ c.number_at-stored.ensures ∙ ap (number_at t) size ∙ e ∙ sym told.1))
+    (λ e. omega (arith, c.wide_u32-expected.ensures, c.number_at-stored.ensures, ap (number_at t) size, e, told.1))
 
 pub judge_table-requires : goal.judge_table-requires
 judge_table-requires c = let start = c in
@@ -34,7 +34,7 @@ judge_table-requires c = let start = c in
       long = long;
       bytes_right_holds = told.0;
       stored_is = stored;
-      count_right_holds = count_told start.args.sheet.now t long (omega (arith, stored, c.wide_u32-expected.ensures, told.1, c.if-expected-filled.false));
+      count_right_holds = count_told start.args.sheet.now t long (omega (arith, stored, c.wide_u32-expected.ensures, told.1));
     }
 
 pub returns-in-ByteOver : goal.returns-in-ByteOver
