@@ -10,7 +10,7 @@ use Rattle.text.specs.Decimal.{decimal_of}
 use Rattle.text.specs.Words.{space, line_feed}
 use Rattle.text.proofs.Placing.{Placed, place_fitting, buffer_fitting, placed_fitting}
 use Rattle.sheet.specs.Bytes.{byte}
-use Rattle.sheet.specs.Plan.{origin, target}
+use Rattle.sheet.specs.Plan.{origin}
 use Rattle.sheet.specs.TransitionSystem.{LabelledTransition, transition_of}
 use Rattle.closest.specs.Tracing.{last_transition, way_to, way_bytes}
 use Rattle.closest.proofs.Traces.Backwards.{three_bytes, bytes_append}

@@ -1,6 +1,6 @@
 // From the bytes that were read to the text.
 ghost use Rattle.std.specs.Prelude.{◌≤◌, ◌≡◌, length};
-ghost use Rattle.io.specs.Counts.{IsPrefixLen};
+ghost use Rattle.streams.specs.Counts.{IsPrefixLen};
 ghost use Rattle.text.specs.Placing.{Puts};
 ghost use Rattle.closest.specs.declared.Closest.TheVariants.{Fails};
 ghost use Rattle.closest_state.specs.Buffers.{input_length, PutsTextOfFile};

@@ -8,7 +8,7 @@ use lib.ListN.{length, take, drop, replicate, length-append, length-take, length
 use lib.Seq.{length-take-le, get_or-take, get_or-drop, get_or-append-add, take-add, drop_at, take-append-le, take-take}
 use borrow.Author.Tests.{le-leb}
 use borrow.Rule.Slice.PartMut.{put_mid, post_of, same_len_mid}
-use Rattle.io.specs.Counts.{IsPrefixLen}
+use Rattle.streams.specs.Counts.{IsPrefixLen}
 use Rattle.sheet.specs.Bytes.{byte}
 use Rattle.sheet.specs.Contents.{longest}
 use Rattle.sheet.specs.RunningCalls.{AllBytes}

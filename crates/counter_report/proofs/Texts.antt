@@ -7,7 +7,7 @@ use mathlib.Core.Logic.{◌≢◌}
 use native.Mathlib.Omega.{arith}
 use lib.ListN.{length}
 use borrow.Author.Tests.{le-leb}
-use Rattle.io.specs.Counts.{IsPrefixLen}
+use Rattle.streams.specs.Counts.{IsPrefixLen}
 use Rattle.text.specs.Placing.{place_after, buffer_after, starting_with, Puts}
 use Rattle.text.specs.RefusalLine.{refusal_line}
 use Rattle.text.proofs.Placing.{puts_counted}

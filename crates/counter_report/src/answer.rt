@@ -1,6 +1,6 @@
 // From the bytes that were read to the text.
 ghost use Rattle.std.specs.Prelude.{◌≤◌, min, ◌≡◌, length};
-ghost use Rattle.io.specs.Counts.{IsPrefixLen};
+ghost use Rattle.streams.specs.Counts.{IsPrefixLen};
 ghost use Rattle.text.specs.Placing.{Puts};
 ghost use Rattle.report.specs.Reporting.{least_output};
 ghost use Rattle.counter_report.specs.Input.{input_length};

@@ -1,12 +1,12 @@
 // The input: a count byte, that many state bytes, then the sheet.
-ghost use Rattle.std.specs.Prelude.{◌<◌, ◌≡◌, length, take};
-ghost use Rattle.io.specs.Counts.{IsPrefixLen};
+ghost use Rattle.std.specs.Prelude.{◌<◌, ◌≡◌, IfOk, length, take};
+ghost use Rattle.streams.specs.Counts.{IsPrefixLen};
 ghost use Rattle.counter_report.specs.Input.{input_count, rest_needed, input_length};
 ghost use Rattle.counter_report.specs.Buffers.{NoFurther};
 
-use libc::STDIN_FILENO;
 use report::MOST_QUERIES;
 use sheet::LONGEST;
+use std::io::{Read, Result};
 
 // Behind the states one byte more than the longest sheet, so that a longer one is seen to be too long and is not read to its end.
 const SHEET_BYTES: usize = LONGEST + 1;
@@ -27,28 +27,28 @@ pub(crate) fn count_read(input: &[u8], n: usize) -> usize
 }
 
 // Reads what may follow a count byte. How many bytes that is, is asked of the caller, since no contract says what is read.
-fn read_rest(count: usize, rest: &mut [u8]) -> usize
+fn read_rest<R: Read>(reader: &mut R, count: usize, rest: &mut [u8]) -> Result<usize>
     requires { length rest.old ≡ rest_needed count }
-    ensures { IsPrefixLen result rest.new }
+    ensures { IfOk result (λ n. IsPrefixLen n rest.new) }
 {
-    io::read_full(STDIN_FILENO, rest)
+    streams::read_full(reader, rest)
 }
 
 // Reads the count byte and, where it does not say too many queries, what is needed of the rest; answers how many bytes there were.
-pub(crate) fn read_input(input: &mut [u8]) -> usize
+pub(crate) fn read_input<R: Read>(reader: &mut R, input: &mut [u8]) -> Result<usize>
     requires { length input.old ≡ input_length }
-    ensures prefix_len { IsPrefixLen result input.new }
-    ensures no_further { NoFurther result input.new }
+    ensures prefix_len { IfOk result (λ n. IsPrefixLen n input.new) }
+    ensures no_further { IfOk result (λ n. NoFurther n input.new) }
 {
-    let first = io::read_full(STDIN_FILENO, &mut input[0..1]);
+    let first = streams::read_full(reader, &mut input[0..1])?;
     if first == 0 {
-        return 0;
+        return Ok(0);
     }
     let count = count_read(input, first);
     if MOST_QUERIES < count {
-        return first;
+        return Ok(first);
     }
     let end = 1 + (count + SHEET_BYTES);
-    let rest = read_rest(count, &mut input[1..end]);
-    1 + rest
+    let rest = read_rest(reader, count, &mut input[1..end])?;
+    Ok(1 + rest)
 }

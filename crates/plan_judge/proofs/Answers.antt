@@ -21,7 +21,7 @@ use Rattle.sheet.proofs.Acceptance.Parts.{bodies_kept}
 use Rattle.calculus.specs.Verdict.{Verdict}
 use Rattle.rows.specs.Rows.{value, need}
 use Rattle.rows.specs.Tables.{byte_at, count, among, query, visits}
-use Rattle.rows.proofs.Systems.Goals.{needed}
+use Rattle.rows.proofs.Systems.Needs.{needed}
 use Rattle.rows.proofs.Tables.Counting.{count_cong}
 use Rattle.rows.proofs.Tables.Filling.{fills_empty}
 use Rattle.rows.proofs.Lists.FromCleared.{cleared_value, cleared_need}
@@ -150,9 +150,9 @@ program_correct s = go (sheet_check s) refl
     go (Failed x) e = subst (RightAnswer s) (sym (program_refuses s x e)) (RightAnswer.unreadable e)
 
 pub program_refusals : ProgramRefusals
-program_refusals s = go (program_of s) (program_correct s)
+program_refusals s = go (program_correct s)
   where
-    go : (q : Queried) → RightAnswer s q → ((reported_query q).number ≤ 10) ⊎ ((reported_query q).number ≡ 12)
-    go (Refused x) (RightAnswer.unreadable e) = inl (low_refusal s e)
-    go (Refused Loop) (RightAnswer.loops a l) = inr refl
-    go (Judged v n) (RightAnswer.judged a f w m) = inl (omega arith)
+    go : {q : Queried} → RightAnswer s q → ((reported_query q).number ≤ 10) ⊎ ((reported_query q).number ≡ 12)
+    go (RightAnswer.unreadable e) = inl (low_refusal s e)
+    go (RightAnswer.loops a l) = inr refl
+    go (RightAnswer.judged a f w m) = inl (omega arith)

@@ -1,6 +1,6 @@
 // From the bytes that were read to the line.
 ghost use Rattle.std.specs.Prelude.{◌≤◌, ◌≡◌, length};
-ghost use Rattle.io.specs.Counts.{IsPrefixLen};
+ghost use Rattle.streams.specs.Counts.{IsPrefixLen};
 ghost use Rattle.text.specs.Placing.{Puts};
 ghost use Rattle.plan_judge.specs.Line.{line_length};
 ghost use Rattle.plan_judge.specs.Program.{program_of, program_line};

@@ -1,6 +1,6 @@
 // The line that the program writes, put together in a buffer.
 ghost use Rattle.std.specs.Prelude.{◌≤◌, length};
-ghost use Rattle.io.specs.Counts.{IsPrefixLen};
+ghost use Rattle.streams.specs.Counts.{IsPrefixLen};
 ghost use Rattle.text.specs.Placing.{Puts};
 ghost use Rattle.judge.specs.declared.Queried.TheVariants.{Judged};
 ghost use Rattle.plan_judge.specs.Line.{line_of, line_length};

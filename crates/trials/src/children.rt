@@ -1,13 +1,14 @@
 // Request 8: how many children a node of a kind has.
 use crate::input::Byte;
 use crate::{input, output};
+use std::io::{Result, Stdin, Stdout};
 
-pub(crate) fn answer() -> bool {
-    let Byte::Got(kind) = input::read_byte() else {
-        return false;
+pub(crate) fn answer(stdin: Stdin, stdout: Stdout) -> Result<bool> {
+    let Byte::Got(kind) = input::read_byte(stdin)? else {
+        return Ok(false);
     };
-    output::text(b"children");
-    output::number(sheet::kinds::child_count(kind) as u64);
-    output::end_line();
-    true
+    output::text(stdout, b"children")?;
+    output::number(stdout, sheet::kinds::child_count(kind) as u64)?;
+    output::end_line(stdout)?;
+    Ok(true)
 }

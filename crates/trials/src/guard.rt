@@ -2,27 +2,28 @@
 use crate::input::{Buffer, Number};
 use crate::{input, output};
 use calculus::Guard;
+use std::io::{Result, Stdin, Stdout};
 
-fn guard(sheet: &[u8]) {
-    output::text(b"guard");
+fn guard(stdout: Stdout, sheet: &[u8]) -> Result<()> {
+    output::text(stdout, b"guard")?;
     let answer = calculus::guardedness::guard(sheet);
     match answer {
         Guard::Answered(b) => {
-            output::accepted();
-            output::truth(b);
+            output::accepted(stdout)?;
+            output::truth(stdout, b)?;
         }
         Guard::Refused(r) => {
-            output::refused(r);
-            output::truth(false);
+            output::refused(stdout, r)?;
+            output::truth(stdout, false)?;
         }
     }
-    output::end_line();
+    output::end_line(stdout)
 }
 
-pub(crate) fn answer(sheet: &mut Buffer) -> bool {
-    let Number::Got(n) = input::read_blob(sheet) else {
-        return false;
+pub(crate) fn answer(stdin: Stdin, stdout: Stdout, sheet: &mut Buffer) -> Result<bool> {
+    let Number::Got(n) = input::read_blob(stdin, sheet)? else {
+        return Ok(false);
     };
-    guard(input::prefix(sheet, n));
-    true
+    guard(stdout, input::prefix(sheet, n))?;
+    Ok(true)
 }

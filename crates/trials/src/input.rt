@@ -1,7 +1,9 @@
 // Operands from standard input: a byte, a 16-bit number, a 32-bit number, a blob.
 ghost use Rattle.std.specs.Prelude.{◌≤◌, length};
 
-use libc::STDIN_FILENO;
+use std::alloc::{AllocError, Global};
+use std::io;
+use std::io::Stdin;
 
 // Room for a blob of any length that 16 bits allow.
 pub(crate) type Buffer = [u8; 65536];
@@ -29,63 +31,68 @@ pub(crate) enum Wide {
     Ended,
 }
 
+// A buffer of zeros, on the heap, since four of them are held for the whole run.
+pub(crate) fn large_buffer(alloc: Global) -> Result<Box<Buffer>, AllocError> {
+    Ok(Box::new(alloc, [0; 65536])?)
+}
+
 fn number_of(low: u8, high: u8) -> u16 {
     low as u16 + 256 * (high as u16)
 }
 
-pub(crate) fn read_byte() -> Byte {
+pub(crate) fn read_byte(mut stdin: Stdin) -> io::Result<Byte> {
     let mut one = [0u8; 1];
-    let n = io::read_full(STDIN_FILENO, &mut one);
+    let n = streams::read_full(&mut stdin, &mut one)?;
     if n < 1 {
-        return Byte::Ended;
+        return Ok(Byte::Ended);
     }
-    Byte::Got(one[0])
+    Ok(Byte::Got(one[0]))
 }
 
-pub(crate) fn read_number() -> Number {
+pub(crate) fn read_number(mut stdin: Stdin) -> io::Result<Number> {
     let mut two = [0u8; 2];
-    let n = io::read_full(STDIN_FILENO, &mut two);
+    let n = streams::read_full(&mut stdin, &mut two)?;
     if n < 2 {
-        return Number::Ended;
+        return Ok(Number::Ended);
     }
-    Number::Got(number_of(two[0], two[1]))
+    Ok(Number::Got(number_of(two[0], two[1])))
 }
 
 fn wide_of(low: u16, high: u16) -> u32 {
     low as u32 + WORD_VALUES * (high as u32)
 }
 
-pub(crate) fn read_wide() -> Wide {
-    let Number::Got(low) = read_number() else {
-        return Wide::Ended;
+pub(crate) fn read_wide(stdin: Stdin) -> io::Result<Wide> {
+    let Number::Got(low) = read_number(stdin)? else {
+        return Ok(Wide::Ended);
     };
-    let Number::Got(high) = read_number() else {
-        return Wide::Ended;
+    let Number::Got(high) = read_number(stdin)? else {
+        return Ok(Wide::Ended);
     };
-    Wide::Got(wide_of(low, high))
+    Ok(Wide::Got(wide_of(low, high)))
 }
 
-fn read_start(buf: &mut [u8], n: usize) -> usize
+fn read_start(mut stdin: Stdin, buf: &mut [u8], n: usize) -> io::Result<usize>
     requires { n ≤ length buf.old }
 {
-    io::read_full(STDIN_FILENO, &mut buf[0..n])
+    streams::read_full(&mut stdin, &mut buf[0..n])
 }
 
 // n bytes, put at the start of buf.
-fn read_bytes(buf: &mut Buffer, n: u16) -> Number {
-    let got = read_start(buf, n as usize);
+fn read_bytes(stdin: Stdin, buf: &mut Buffer, n: u16) -> io::Result<Number> {
+    let got = read_start(stdin, buf, n as usize)?;
     if got < n as usize {
-        return Number::Ended;
+        return Ok(Number::Ended);
     }
-    Number::Got(n)
+    Ok(Number::Got(n))
 }
 
 // A blob: its length, and its bytes at the start of buf.
-pub(crate) fn read_blob(buf: &mut Buffer) -> Number {
-    let length = read_number();
+pub(crate) fn read_blob(stdin: Stdin, buf: &mut Buffer) -> io::Result<Number> {
+    let length = read_number(stdin)?;
     match length {
-        Number::Got(n) => read_bytes(buf, n),
-        Number::Ended => Number::Ended,
+        Number::Got(n) => read_bytes(stdin, buf, n),
+        Number::Ended => Ok(Number::Ended),
     }
 }
 

@@ -1,4 +1,6 @@
 // The trial driver: reads requests from standard input until it ends, and writes the result of each as text.
+#![tactic(auto)]
+
 mod allowed;
 mod audited;
 mod branch;
@@ -19,54 +21,76 @@ mod reports;
 mod write;
 
 use input::{Buffer, Byte};
+use std::io::{Result, Stdin, Stdout};
 
 // Answers one request of the number given; false where the input cuts it short or the number is unknown. The buffers hold what an earlier request left:
 // a request lends the calls only bytes that it has read or filled.
 fn answer(
+    stdin: Stdin,
+    stdout: Stdout,
     number: u8,
     first: &mut Buffer,
     second: &mut Buffer,
     third: &mut Buffer,
     fourth: &mut Buffer,
-) -> bool {
+) -> Result<bool> {
     match number {
-        1 => read::answer(first),
-        2 => guard::answer(first),
-        3 => refer::answer(first),
-        4 => list::answer(first, second, third),
-        5 => query::answer(first, second),
-        6 => write::answer(first, second, third, fourth),
-        7 => pattern::answer(first, second, third),
-        8 => children::answer(),
-        9 => line::answer(first, second),
-        10 => reports::answer(first, second, third, fourth),
-        11 => convert::answer(first, second),
-        12 => branch::answer_propose(first),
-        13 => branch::answer_commit(first, second),
-        14 => recorded::answer(first, second, third),
-        15 => audited::answer(first, second),
-        16 => allowed::answer(first, second, third),
-        17 => nearest::answer(first, second),
-        _ => false,
+        1 => read::answer(stdin, stdout, first),
+        2 => guard::answer(stdin, stdout, first),
+        3 => refer::answer(stdin, stdout, first),
+        4 => list::answer(stdin, stdout, first, second, third),
+        5 => query::answer(stdin, stdout, first, second),
+        6 => write::answer(stdin, stdout, first, second, third, fourth),
+        7 => pattern::answer(stdin, stdout, first, second, third),
+        8 => children::answer(stdin, stdout),
+        9 => line::answer(stdin, stdout, first, second),
+        10 => reports::answer(stdin, stdout, first, second, third, fourth),
+        11 => convert::answer(stdin, stdout, first, second),
+        12 => branch::answer_propose(stdin, stdout, first),
+        13 => branch::answer_commit(stdin, stdout, first, second),
+        14 => recorded::answer(stdin, stdout, first, second, third),
+        15 => audited::answer(stdin, stdout, first, second),
+        16 => allowed::answer(stdin, stdout, first, second, third),
+        17 => nearest::answer(stdin, stdout, first, second),
+        _ => Ok(false),
     }
 }
 
-fn next(first: &mut Buffer, second: &mut Buffer, third: &mut Buffer, fourth: &mut Buffer) -> bool {
-    let number = input::read_byte();
+fn next(
+    stdin: Stdin,
+    stdout: Stdout,
+    first: &mut Buffer,
+    second: &mut Buffer,
+    third: &mut Buffer,
+    fourth: &mut Buffer,
+) -> Result<bool> {
+    let number = input::read_byte(stdin)?;
     match number {
-        Byte::Got(n) => answer(n, first, second, third, fourth),
-        Byte::Ended => false,
+        Byte::Got(n) => answer(stdin, stdout, n, first, second, third, fourth),
+        Byte::Ended => Ok(false),
     }
 }
 
 // A proved loop has to end, so it counts its turns down, from a number that no run uses up.
-fn main() {
-    let mut first = io::large_buffer();
-    let mut second = io::large_buffer();
-    let mut third = io::large_buffer();
-    let mut fourth = io::large_buffer();
+fn main(rt: HostRuntime) -> Result<()> {
+    let stdin = rt.stdin();
+    let stdout = rt.stdout();
+    let mut first = input::large_buffer(rt.alloc())?;
+    let mut second = input::large_buffer(rt.alloc())?;
+    let mut third = input::large_buffer(rt.alloc())?;
+    let mut fourth = input::large_buffer(rt.alloc())?;
     let mut turns = u64::MAX;
-    while turns > 0 && next(&mut first, &mut second, &mut third, &mut fourth) {
+    while turns > 0
+        && next(
+            stdin,
+            stdout,
+            &mut first,
+            &mut second,
+            &mut third,
+            &mut fourth,
+        )?
+    {
         turns -= 1;
     }
+    Ok(())
 }

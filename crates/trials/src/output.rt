@@ -1,40 +1,39 @@
 // Lines of words on standard output.
-ghost use Rattle.std.specs.Prelude.{◌+◌, ◌<◌, ◌≤◌, length};
+ghost use Rattle.std.specs.Prelude.{◌+◌, ◌<◌, ◌≤◌, IfOk, length};
 
-use libc::STDOUT_FILENO;
 use sheet::Refusal;
+use std::io::{Print, Result, Stdout};
 
-pub(crate) fn text(s: &[u8]) {
-    io::write_all(STDOUT_FILENO, s);
+pub(crate) fn text(stdout: Stdout, s: &[u8]) -> Result<()> {
+    Print::write_all(&stdout, s)
 }
 
 // A space and a number.
-pub(crate) fn number(n: u64) {
-    text(b" ");
-    io::print_decimal(STDOUT_FILENO, n);
+pub(crate) fn number(stdout: Stdout, n: u64) -> Result<()> {
+    print!(stdout; " {n}")
 }
 
 // A space and a verdict.
-pub(crate) fn truth(b: bool) {
+pub(crate) fn truth(stdout: Stdout, b: bool) -> Result<()> {
     if b {
-        text(b" true");
+        text(stdout, b" true")
     } else {
-        text(b" false");
+        text(stdout, b" false")
     }
 }
 
-pub(crate) fn end_line() {
-    text(b"\n");
+pub(crate) fn end_line(stdout: Stdout) -> Result<()> {
+    text(stdout, b"\n")
 }
 
 // The number and the place of an accepted call.
-pub(crate) fn accepted() {
-    text(b" 0 0");
+pub(crate) fn accepted(stdout: Stdout) -> Result<()> {
+    text(stdout, b" 0 0")
 }
 
-pub(crate) fn refused(r: Refusal) {
-    number(r.number() as u64);
-    number(r.place() as u64);
+pub(crate) fn refused(stdout: Stdout, r: Refusal) -> Result<()> {
+    number(stdout, r.number() as u64)?;
+    number(stdout, r.place() as u64)
 }
 
 fn digit(d: u8) -> u8
@@ -77,30 +76,31 @@ fn spell(s: &[u8], from: usize, n: usize, digits: &mut Digits)
     }
 }
 
-fn text_start(digits: &Digits, n: usize)
+fn text_start(stdout: Stdout, digits: &Digits, n: usize) -> Result<()>
     requires { n ≤ 4096 }
 {
     let whole = &digits[..];
-    text(&whole[0..n]);
+    text(stdout, &whole[0..n])
 }
 
 // Writes at most CHUNK bytes of s from index `from` on, and answers how many.
-fn hex_chunk(s: &[u8], from: usize) -> usize
+fn hex_chunk(stdout: Stdout, s: &[u8], from: usize) -> Result<usize>
     requires { from < length s.now }
-    ensures { (0 < result) × (from + result ≤ length s.now) }
+    ensures { IfOk result (λ n. (0 < n) × (from + n ≤ length s.now)) }
 {
-    let mut digits = io::buffer();
+    let mut digits = [0u8; 2 * CHUNK];
     let n = chunk(s.len() - from);
     spell(s, from, n, &mut digits);
-    text_start(&digits, 2 * n);
-    n
+    text_start(stdout, &digits, 2 * n)?;
+    Ok(n)
 }
 
 // A space and the bytes of s, two digits each.
-pub(crate) fn hex(s: &[u8]) {
-    text(b" ");
+pub(crate) fn hex(stdout: Stdout, s: &[u8]) -> Result<()> {
+    text(stdout, b" ")?;
     let mut from = 0;
     while from < s.len() {
-        from += hex_chunk(s, from);
+        from += hex_chunk(stdout, s, from)?;
     }
+    Ok(())
 }

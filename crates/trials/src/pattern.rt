@@ -4,48 +4,73 @@ ghost use Rattle.std.specs.Prelude.{◌≤◌, length};
 use crate::input::{Buffer, Byte, Number};
 use crate::{input, output};
 use patterns::Translated;
+use std::io::{Result, Stdin, Stdout};
 
-fn write_length(t: Translated) {
-    output::text(b"pattern");
-    output::number(t.number() as u64);
-    output::number(t.place() as u64);
-    output::number(t.length() as u64);
-    output::end_line();
+fn write_length(stdout: Stdout, t: Translated) -> Result<()> {
+    output::text(stdout, b"pattern")?;
+    output::number(stdout, t.number() as u64)?;
+    output::number(stdout, t.place() as u64)?;
+    output::number(stdout, t.length() as u64)?;
+    output::end_line(stdout)
 }
 
-fn translate(sheet: &[u8], pattern: &[u8], out: &mut [u8]) {
+fn translate(stdout: Stdout, sheet: &[u8], pattern: &[u8], out: &mut [u8]) -> Result<()> {
     let t = patterns::translating::translate(sheet, pattern, out);
-    write_length(t);
-    output::text(b"out");
-    output::hex(out);
-    output::end_line();
+    write_length(stdout, t)?;
+    output::text(stdout, b"out")?;
+    output::hex(stdout, out)?;
+    output::end_line(stdout)
 }
 
-fn translate_start(sheet: &[u8], pattern: &[u8], buf: &mut [u8], n: usize)
+fn translate_start(
+    stdout: Stdout,
+    sheet: &[u8],
+    pattern: &[u8],
+    buf: &mut [u8],
+    n: usize,
+) -> Result<()>
     requires { n ≤ length buf.old }
 {
-    translate(sheet, pattern, &mut buf[0..n]);
+    translate(stdout, sheet, pattern, &mut buf[0..n])
 }
 
 // Lends the translation the first n bytes of buf.
-fn translate_to(sheet: &[u8], pattern: &[u8], buf: &mut Buffer, n: u16) {
-    translate_start(sheet, pattern, buf, n as usize);
+fn translate_to(
+    stdout: Stdout,
+    sheet: &[u8],
+    pattern: &[u8],
+    buf: &mut Buffer,
+    n: u16,
+) -> Result<()> {
+    translate_start(stdout, sheet, pattern, buf, n as usize)
 }
 
-pub(crate) fn answer(sheet: &mut Buffer, pattern: &mut Buffer, out: &mut Buffer) -> bool {
-    let Number::Got(s) = input::read_blob(sheet) else {
-        return false;
+pub(crate) fn answer(
+    stdin: Stdin,
+    stdout: Stdout,
+    sheet: &mut Buffer,
+    pattern: &mut Buffer,
+    out: &mut Buffer,
+) -> Result<bool> {
+    let Number::Got(s) = input::read_blob(stdin, sheet)? else {
+        return Ok(false);
     };
-    let Number::Got(p) = input::read_blob(pattern) else {
-        return false;
+    let Number::Got(p) = input::read_blob(stdin, pattern)? else {
+        return Ok(false);
     };
-    let Number::Got(n) = input::read_number() else {
-        return false;
+    let Number::Got(n) = input::read_number(stdin)? else {
+        return Ok(false);
     };
-    let Byte::Got(b) = input::read_byte() else {
-        return false;
+    let Byte::Got(b) = input::read_byte(stdin)? else {
+        return Ok(false);
     };
     input::fill(out, n, b);
-    translate_to(input::prefix(sheet, s), input::prefix(pattern, p), out, n);
-    true
+    translate_to(
+        stdout,
+        input::prefix(sheet, s),
+        input::prefix(pattern, p),
+        out,
+        n,
+    )?;
+    Ok(true)
 }

@@ -2,16 +2,17 @@
 use crate::input::{Buffer, Number};
 use crate::{input, output};
 use sheet::{Bodies, Read, Span};
+use std::io::{Result, Stdin, Stdout};
 
-fn write_span(s: Span) {
-    output::number(s.offset as u64);
-    output::number(s.length as u64);
+fn write_span(stdout: Stdout, s: Span) -> Result<()> {
+    output::number(stdout, s.offset as u64)?;
+    output::number(stdout, s.length as u64)
 }
 
-fn write_bodies(b: Bodies) {
-    write_span(b.plan);
-    write_span(b.actions);
-    write_span(b.rule);
+fn write_bodies(stdout: Stdout, b: Bodies) -> Result<()> {
+    write_span(stdout, b.plan)?;
+    write_span(stdout, b.actions)?;
+    write_span(stdout, b.rule)
 }
 
 fn empty_span() -> Span {
@@ -21,28 +22,28 @@ fn empty_span() -> Span {
     }
 }
 
-fn read(sheet: &[u8]) {
-    output::text(b"read");
+fn read(stdout: Stdout, sheet: &[u8]) -> Result<()> {
+    output::text(stdout, b"read")?;
     let answer = sheet::reader::read(sheet);
     match answer {
         Read::Accepted(b) => {
-            output::accepted();
-            write_bodies(b);
+            output::accepted(stdout)?;
+            write_bodies(stdout, b)?;
         }
         Read::Refused(r) => {
-            output::refused(r);
-            write_span(empty_span());
-            write_span(empty_span());
-            write_span(empty_span());
+            output::refused(stdout, r)?;
+            write_span(stdout, empty_span())?;
+            write_span(stdout, empty_span())?;
+            write_span(stdout, empty_span())?;
         }
     }
-    output::end_line();
+    output::end_line(stdout)
 }
 
-pub(crate) fn answer(sheet: &mut Buffer) -> bool {
-    let Number::Got(n) = input::read_blob(sheet) else {
-        return false;
+pub(crate) fn answer(stdin: Stdin, stdout: Stdout, sheet: &mut Buffer) -> Result<bool> {
+    let Number::Got(n) = input::read_blob(stdin, sheet)? else {
+        return Ok(false);
     };
-    read(input::prefix(sheet, n));
-    true
+    read(stdout, input::prefix(sheet, n))?;
+    Ok(true)
 }

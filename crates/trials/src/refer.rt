@@ -2,27 +2,28 @@
 use crate::input::{Buffer, Number};
 use crate::{input, output};
 use reference::Reference;
+use std::io::{Result, Stdin, Stdout};
 
-fn refer(sheet: &[u8]) {
-    output::text(b"reference");
+fn refer(stdout: Stdout, sheet: &[u8]) -> Result<()> {
+    output::text(stdout, b"reference")?;
     let answer = reference::judging::reference(sheet);
     match answer {
         Reference::Word(w) => {
-            output::accepted();
-            output::number(w);
+            output::accepted(stdout)?;
+            output::number(stdout, w)?;
         }
         Reference::Refused(r) => {
-            output::refused(r);
-            output::number(0);
+            output::refused(stdout, r)?;
+            output::number(stdout, 0)?;
         }
     }
-    output::end_line();
+    output::end_line(stdout)
 }
 
-pub(crate) fn answer(sheet: &mut Buffer) -> bool {
-    let Number::Got(n) = input::read_blob(sheet) else {
-        return false;
+pub(crate) fn answer(stdin: Stdin, stdout: Stdout, sheet: &mut Buffer) -> Result<bool> {
+    let Number::Got(n) = input::read_blob(stdin, sheet)? else {
+        return Ok(false);
     };
-    refer(input::prefix(sheet, n));
-    true
+    refer(stdout, input::prefix(sheet, n))?;
+    Ok(true)
 }
