@@ -1,7 +1,6 @@
 // Operands from standard input: a byte, a 16-bit number, a 32-bit number, a blob.
 ghost use Rattle.std.specs.Prelude.{◌≤◌, length};
 
-use std::alloc::{AllocError, Global};
 use std::io;
 use std::io::Stdin;
 
@@ -29,11 +28,6 @@ pub(crate) enum Number {
 pub(crate) enum Wide {
     Got(u32),
     Ended,
-}
-
-// A buffer of zeros, on the heap, since four of them are held for the whole run.
-pub(crate) fn large_buffer(alloc: Global) -> Result<Box<Buffer>, AllocError> {
-    Ok(Box::new(alloc, [0; 65536])?)
 }
 
 fn number_of(low: u8, high: u8) -> u16 {

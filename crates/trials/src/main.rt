@@ -75,10 +75,10 @@ fn next(
 fn main(rt: HostRuntime) -> Result<()> {
     let stdin = rt.stdin();
     let stdout = rt.stdout();
-    let mut first = input::large_buffer(rt.alloc())?;
-    let mut second = input::large_buffer(rt.alloc())?;
-    let mut third = input::large_buffer(rt.alloc())?;
-    let mut fourth = input::large_buffer(rt.alloc())?;
+    let mut first: Buffer = [0; 65536];
+    let mut second: Buffer = [0; 65536];
+    let mut third: Buffer = [0; 65536];
+    let mut fourth: Buffer = [0; 65536];
     let mut turns = u64::MAX;
     while turns > 0
         && next(
