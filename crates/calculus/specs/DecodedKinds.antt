@@ -1,5 +1,5 @@
 -- The equations that a reader expects of the decoding, kind by kind, of bodies that keep the rules of a sheet. They are shown by
--- entries-decoded (proofs/Decoding/Entries.antt) and nodes-decoded (proofs/Decoding/Nodes.antt).
+-- entries_decoded (proofs/Decoding/Entries.antt) and nodes_decoded (proofs/Decoding/Nodes.antt).
 use Rattle.std.specs.Prelude.{ℕ, ◌<◌, ◌≡◌, List}
 use Rattle.sheet.specs.Actions.{entry_count, entry_kind, entry_x, entry_y}
 use Rattle.sheet.specs.Rule.{node_count, node_kind, node_x, node_y}

@@ -38,7 +38,7 @@ use Rattle.closest.specs.ClosestCorrect.{ClosestCorrect}
 use Rattle.closest.specs.Steps.{WayOf}
 use Rattle.closest.specs.declared.Closest.{Closest}
 use Rattle.closest.specs.declared.Closest.TheVariants.{Refused}
-use Rattle.closest.proofs.Queries.Answers.{way-taken, closest-is}
+use Rattle.closest.proofs.Queries.Answers.{way_taken, closest-is}
 use Rattle.closest.proofs.Statements.ClosestCorrect.{closest_correct}
 use Rattle.closest.proofs.Traces.Ways.{way_leads, way_length}
 use Rattle.closest.proofs.Ways.Later.{reachable_exactly}
@@ -106,7 +106,7 @@ module _ (s : List ℕ) (accepted : sheet_check s ≡ Passed) where
 
     verdict : {n t : ℕ} → WayOf plan n t → (holds_by s table t ≡ true) ↔ Verdict s t
     verdict {t = t} w =
-        let valid = takes_valid s accepted t (way-taken s accepted e w) in
+        let valid = takes_valid s accepted t (way_taken s accepted e w) in
         let clear : (i : ℕ) → i < cell_bytes s → byte_at (cells_in s table) i ≡ 0 = λ i h. cells_byte s table i h ∙ zeros i (omega arith) in
         let same = cleared_value (solvable bodies) (cells_in s table) (omega (arith, cells_length s table long)) clear (cell 0 0 t) valid in
         subst (λ (b : Bool). (b ≡ true) ↔ Verdict s t) (sym same) (table1 s accepted t valid)

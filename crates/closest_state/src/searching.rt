@@ -71,7 +71,7 @@ pub(crate) fn search_input(input: &[u8], n: usize, out: &mut [u8]) -> usize
     requires input_len { length input.now ≡ input_length }
     requires prefix_len { IsPrefixLen n input.now }
     requires text_length_in_bounds { text_length ≤ length out.old }
-    ensures prefix_len_2 { IsPrefixLen result out.new }
+    ensures result_len { IsPrefixLen result out.new }
     ensures puts_text_of_file { PutsTextOfFile input.now n result out.old out.new }
 {
     put_text(&input[..n], out)

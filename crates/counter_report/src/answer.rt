@@ -41,7 +41,7 @@ pub(crate) fn report_input(input: &[u8], n: usize, text: &mut [u8]) -> usize
     requires input_len { length input.now ≡ input_length }
     requires prefix_len { IsPrefixLen n input.now }
     requires least_output_in_bounds { least_output ≤ length text.old }
-    ensures prefix_len_2 { IsPrefixLen result text.new }
+    ensures result_len { IsPrefixLen result text.new }
     ensures puts_text_of_file { PutsTextOfFile input.now n result text.old text.new }
 {
     let count = count_read(input, n);

@@ -1,5 +1,5 @@
 // The input: a count byte, that many state bytes, then the sheet.
-ghost use Rattle.std.specs.Prelude.{◌<◌, ◌≡◌, IfOk, length, take};
+ghost use Rattle.std.specs.Prelude.{◌<◌, ◌≡◌, IfOk, OnErr, length, take};
 ghost use Rattle.streams.specs.Counts.{IsPrefixLen};
 ghost use Rattle.counter_report.specs.Input.{input_count, rest_needed, input_length};
 ghost use Rattle.counter_report.specs.Buffers.{NoFurther};
@@ -26,19 +26,22 @@ pub(crate) fn count_read(input: &[u8], n: usize) -> usize
     input[0] as usize
 }
 
-// Reads what may follow a count byte. How many bytes that is, is asked of the caller, since no contract says what is read.
+// Reads what may follow a count byte. How many bytes that is, is asked of the caller. The only error is that of a read that fails.
 fn read_rest<R: Read>(reader: &mut R, count: usize, rest: &mut [u8]) -> Result<usize>
     requires { length rest.old ≡ rest_needed count }
-    ensures { IfOk result (λ n. IsPrefixLen n rest.new) }
+    ensures prefix_len { IfOk result (λ n. IsPrefixLen n rest.new) }
+    ensures failed { OnErr result (length rest.new ≡ length rest.old) }
 {
     streams::read_full(reader, rest)
 }
 
-// Reads the count byte and, where it does not say too many queries, what is needed of the rest; answers how many bytes there were.
+// Reads the count byte and, where it does not say too many queries, what is needed of the rest; answers how many bytes there were,
+// or the error of a read that fails.
 pub(crate) fn read_input<R: Read>(reader: &mut R, input: &mut [u8]) -> Result<usize>
     requires { length input.old ≡ input_length }
     ensures prefix_len { IfOk result (λ n. IsPrefixLen n input.new) }
     ensures no_further { IfOk result (λ n. NoFurther n input.new) }
+    ensures failed { OnErr result (length input.new ≡ length input.old) }
 {
     let first = streams::read_full(reader, &mut input[0..1])?;
     if first == 0 {

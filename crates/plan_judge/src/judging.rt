@@ -40,7 +40,7 @@ pub(crate) fn judge_input(input: &[u8], n: usize, text: &mut [u8]) -> usize
     requires input_len { length input.now ≡ input_length }
     requires prefix_len { IsPrefixLen n input.now }
     requires line_length_in_bounds { line_length ≤ length text.old }
-    ensures prefix_len_2 { IsPrefixLen result text.new }
+    ensures result_len { IsPrefixLen result text.new }
     ensures puts_line_of_file { PutsLineOfFile input.now n result text.old text.new }
 {
     judge_line(&input[..n], text)

@@ -1,5 +1,5 @@
 -- What every call of `read` and of `write` reports and leaves, accepted or refused; the numbers and places of refusals are in
--- specs/RefusalOrder.antt. Shown by answered-calls of proofs/Acceptance/Answers.antt.
+-- specs/RefusalOrder.antt. Shown by answered_calls of proofs/Acceptance/Answers.antt.
 use Rattle.std.specs.Prelude.{ℕ, ◌<◌, ◌≤◌, ◌≡◌, List, ◌++◌, ◌↔◌, ◌≢◌, length, drop}
 use Rattle.sheet.specs.WellFormed.{WellFormedBodies, WellFormedSheet}
 use Rattle.sheet.specs.Reading.{bodies_of, no_bodies, reported_read}

@@ -1,5 +1,5 @@
 -- `extent` and `subtree_end` of specs/Rule.antt are computed down to a depth. What they are with no depth: the equations of document 01's
--- courses, and the subtrees of specs/WellFormed.antt. Shown by subtrees of proofs/Nodes/Unfolding.antt and nodes-found of
+-- courses, and the subtrees of specs/WellFormed.antt. Shown by subtrees of proofs/Nodes/Unfolding.antt and nodes_found of
 -- proofs/Nodes/Below.antt.
 use Rattle.std.specs.Prelude.{ℕ, ◌+◌, ◌<◌, ◌≤◌, ◌≡◌, true, List, ◌↔◌}
 use Rattle.sheet.specs.Rule.{node_count, node_kind, shape_of, course, extent, syntax_fault, binder_node, subtree_end, below}

@@ -83,7 +83,7 @@ fn text_start(stdout: Stdout, digits: &Digits, n: usize) -> Result<()>
     text(stdout, &whole[0..n])
 }
 
-// Writes at most CHUNK bytes of s from index `from` on, and answers how many.
+// Writes at most CHUNK bytes of s from index `from` on, and answers how many, or the error of a write that fails.
 fn hex_chunk(stdout: Stdout, s: &[u8], from: usize) -> Result<usize>
     requires { from < length s.now }
     ensures { IfOk result (λ n. (0 < n) × (from + n ≤ length s.now)) }

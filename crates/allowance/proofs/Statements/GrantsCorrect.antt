@@ -25,7 +25,7 @@ use Rattle.allowance.specs.declared.Answer.TheVariants.{Dealt, BenchCountWrong, 
 use Rattle.allowance.specs.declared.Bench.{Bench}
 use Rattle.allowance.specs.declared.Granted.{Granted}
 use Rattle.allowance.proofs.Lists.ForBenches.{for_length, for_first, for_past}
-use Rattle.allowance.proofs.Tables.Answers.{need-count, need-of-bench, refused-nothing}
+use Rattle.allowance.proofs.Tables.Answers.{need_count, need_of_bench, refused_nothing}
 use Rattle.allowance.proofs.Tables.Outcomes.{outcome, to_0, some_bench, forty_four, own_refusal}
 use Rattle.allowance.proofs.Tables.Outcomes.{accepted_exactly, sheet_in_order, twenty_exactly, no_place}
 use Rattle.allowance.proofs.Tables.EachBench.{bench_right}
@@ -57,7 +57,7 @@ module _ (s states : List ℕ) (allowance : ℕ) (t : List ℕ) where
         in_order = sheet_in_order s states t o;
         twenty = twenty_exactly s states t o;
         place = no_place s states t o;
-        refused = refused-nothing s states t allowance (answer_of s states t);
+        refused = refused_nothing s states t allowance (answer_of s states t);
       }
 
   -- ---- a call that refuses no bench
@@ -101,16 +101,16 @@ module _ (s states : List ℕ) (allowance : ℕ) (t : List ℕ) where
         (of_bench grants i) (bench_at (benches_granted s states t grants) i)
     each_bench i h =
         let most : of_bench grants i ≤ need_of s states t i =
-        omega (arith, dealt_well.at_most_holds i (omega (arith, need-count s states t)), need-of-bench s states t i h) in
+        omega (arith, dealt_well.at_most_holds i (omega (arith, need_count s states t)), need_of_bench s states t i h) in
         let b : BenchRight s (byte states i) (bench_table s t i) (table_of s states t grants i) (need_of s states t i) (of_bench grants i)
         (bench_of s states t grants i) =
         bench_right s (byte states i) (bench_table s t i) (none i h) (of_bench grants i) most (is_short s states t grants i) refl in
-        rw (table_after_lem s states t none grants i h, need-of-bench s states t i h, bench_at_lem i h) b
+        rw (table_after_lem s states t none grants i h, need_of_bench s states t i h, bench_at_lem i h) b
 
     dealt_right : GrantCorrect s states allowance t (benches_granted s states t grants) (tables_granted s states t grants)
     unfolding benches_granted
     dealt_right = record {
-      need_each = need-count s states t;
+      need_each = need_count s states t;
       well_dealt = dealt_well;
       each = each_bench;
       room = for_length result_for most_benches 0;

@@ -30,7 +30,7 @@ use Rattle.allowance.specs.declared.Answer.{Answer}
 use Rattle.allowance.specs.declared.Answer.TheVariants.{Dealt, BenchCountWrong, WrongCount, Refused}
 use Rattle.allowance.specs.declared.Bench.{Bench}
 use Rattle.allowance.specs.declared.Granted.{Granted}
-use Rattle.allowance.proofs.Tables.Answers.{need-count, verdict-count, refused-nothing}
+use Rattle.allowance.proofs.Tables.Answers.{need_count, verdict_count, refused_nothing}
 use Rattle.allowance.proofs.Statements.DealingCorrect.{dealing_correct}
 
 take_zeros : (k n : ℕ) → k ≤ n → take k (replicate {A = ℕ} n 0) ≡ replicate k 0
@@ -62,7 +62,7 @@ module _ (s states t : List ℕ) {a : Answer} (is : a ≡ answer_of s states t) 
 refused_leaves : (s states t : List ℕ) (a : Answer) → 0 < (reported_answer a).number → a ≡ answer_of s states t → (allowance : ℕ) {g : Granted}
     → g.answer ≡ a → g.benches ≡ no_benches → Grants s states allowance t g t
 refused_leaves s states t a n is allowance e b =
-    let o = refused-nothing s states t allowance a (λ z. omega arith) in leaves s states t is allowance e (b ∙ sym o.0) (sym o.1)
+    let o = refused_nothing s states t allowance a (λ z. omega arith) in leaves s states t is allowance e (b ∙ sym o.0) (sym o.1)
 
 -- of the benches' own refusals the lowest
 module _ {s states t : List ℕ} (right : BenchesRequire s states) (allowance : ℕ) {r : Answer} {x : List ℕ} {j : List Bool}
@@ -135,7 +135,7 @@ module _ {A : Type 0} (states : List ℕ) (x : List A) (e : length x ≡ length 
 module _ {s states t : List ℕ} {a : Answer} {x : List ℕ} {j : List Bool} (f : FindsNeeds s states t a x j) (d : a ≡ Dealt)
     (z : List Bool) where
   judged_length : length j ≡ length states
-  judged_length = ap (length {A = Bool}) (f.judged d) ∙ verdict-count s states t
+  judged_length = ap (length {A = Bool}) (f.judged d) ∙ verdict_count s states t
 
   verdicts_are : take (length states) (j ++ z) ≡ verdicts_of s states t
   verdicts_are = front_is states j judged_length z ∙ f.judged d
@@ -149,7 +149,7 @@ module _ {s states t : List ℕ} {a : Answer} {x : List ℕ} {j : List Bool} (f 
 module _ {s states t : List ℕ} {a : Answer} {x : List ℕ} {j : List Bool} (f : FindsNeeds s states t a x j) (d : a ≡ Dealt)
     (z : List ℕ) where
   found_length : length x ≡ length states
-  found_length = ap (length {A = ℕ}) (f.found d) ∙ need-count s states t
+  found_length = ap (length {A = ℕ}) (f.found d) ∙ need_count s states t
 
   pub needs_room : length states ≤ length (x ++ z)
   needs_room = front_room states x found_length z
@@ -165,7 +165,7 @@ module _ {s states t : List ℕ} {a : Answer} {x : List ℕ} {j : List Bool} (f 
     grants_are = is ∙ ap (λ (l : List ℕ). deal l allowance) (front_is states x found_length z ∙ f.found d)
 
     grants_length : length g ≡ length states
-    grants_length = ap (length {A = ℕ}) grants_are ∙ (dealing_correct.well_dealt (needs_of s states t) allowance).for_each ∙ need-count s states t
+    grants_length = ap (length {A = ℕ}) grants_are ∙ (dealing_correct.well_dealt (needs_of s states t) allowance).for_each ∙ need_count s states t
 
     pub grants_room : length states ≤ length (g ++ y)
     grants_room = front_room states g grants_length y

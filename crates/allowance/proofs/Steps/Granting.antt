@@ -23,7 +23,7 @@ use Rattle.allowance.specs.Internal.Copies.{with_part}
 use Rattle.allowance.specs.Internal.Benches.{QueriesRequire, QueriesBenches}
 use Rattle.allowance.specs.declared.Bench.{Bench}
 use Rattle.allowance.proofs.Lists.ForBenches.{for_first, for_each, replicate_at}
-use Rattle.allowance.proofs.Tables.Answers.{need-count, need-of-bench, verdict-count}
+use Rattle.allowance.proofs.Tables.Answers.{need_count, need_of_bench, verdict_count}
 use Rattle.allowance.proofs.Tables.EndToEnd.{one_more_table}
 use Rattle.allowance.proofs.Tables.TablesAfter.{in_buffer}
 use Rattle.allowance.proofs.Tables.NothingFilled.{part_bytes, nothing_filled}
@@ -216,10 +216,10 @@ module _ (s states t grants : List ℕ) where
 module _ {s states t : List ℕ} {n : ℕ} {needs : List ℕ} {verdicts : List Bool} {grants : List ℕ}
     (r : QueriesRequire s states t n needs verdicts grants) where
   need_at : {i : ℕ} → i < length states → of_bench needs i ≡ need_of s states t i
-  need_at {i} h = ap (λ (l : List ℕ). of_bench l i) r.needed ∙ need-of-bench s states t i h
+  need_at {i} h = ap (λ (l : List ℕ). of_bench l i) r.needed ∙ need_of_bench s states t i h
 
   pub need_each : length needs ≡ length states
-  need_each = ap (length {A = ℕ}) r.needed ∙ need-count s states t
+  need_each = ap (length {A = ℕ}) r.needed ∙ need_count s states t
 
   verdict_at : {i : ℕ} → i < length states → get_or verdicts i false ≡ (bench_report s states t i).verdict
   verdict_at {i} h =
@@ -227,7 +227,7 @@ module _ {s states t : List ℕ} {n : ℕ} {needs : List ℕ} {verdicts : List B
       ∙ for_first (λ j. (bench_report s states t j).verdict) (length states) i false h
 
   pub judged_each : length verdicts ≡ length states
-  judged_each = ap (length {A = Bool}) r.judged ∙ verdict-count s states t
+  judged_each = ap (length {A = Bool}) r.judged ∙ verdict_count s states t
 
   pub in_room : {i : ℕ} → i < length states → i * n + n ≤ length t
   in_room {i} h =

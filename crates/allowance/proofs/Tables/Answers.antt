@@ -12,18 +12,18 @@ use Rattle.allowance.specs.declared.Answer.TheVariants.{Dealt, BenchCountWrong, 
 use Rattle.allowance.proofs.Lists.ForBenches.{for_length, for_first}
 
 module _ (s states t : List ℕ) where
-  pub need-count : length (needs_of s states t) ≡ length states
-  need-count = for_length (need_of s states t) (length states) 0
+  pub need_count : length (needs_of s states t) ≡ length states
+  need_count = for_length (need_of s states t) (length states) 0
 
-  pub verdict-count : length (verdicts_of s states t) ≡ length states
-  verdict-count = for_length (λ i. (bench_report s states t i).verdict) (length states) 0
+  pub verdict_count : length (verdicts_of s states t) ≡ length states
+  verdict_count = for_length (λ i. (bench_report s states t i).verdict) (length states) 0
 
-  pub need-of-bench : (i : ℕ) → i < length states → of_bench (needs_of s states t) i ≡ need_of s states t i
-  need-of-bench i h = for_first (need_of s states t) (length states) i 0 h
+  pub need_of_bench : (i : ℕ) → i < length states → of_bench (needs_of s states t) i ≡ need_of s states t i
+  need_of_bench i h = for_first (need_of s states t) (length states) i 0 h
 
-  pub refused-nothing : (allowance : ℕ) (a : Answer) → (reported_answer a).number ≢ 0
+  pub refused_nothing : (allowance : ℕ) (a : Answer) → (reported_answer a).number ≢ 0
       → (benches_by s states t allowance a ≡ no_benches) × (tables_by s states t allowance a ≡ t)
-  refused-nothing allowance Dealt n = absurd (n refl)
-  refused-nothing allowance BenchCountWrong n = (refl, refl)
-  refused-nothing allowance WrongCount n = (refl, refl)
-  refused-nothing allowance (Refused x) n = (refl, refl)
+  refused_nothing allowance Dealt n = absurd (n refl)
+  refused_nothing allowance BenchCountWrong n = (refl, refl)
+  refused_nothing allowance WrongCount n = (refl, refl)
+  refused_nothing allowance (Refused x) n = (refl, refl)

@@ -30,10 +30,10 @@ module _ (n : ℕ) where
   abbrev pub Under : TransitionLine → Type 0
   Under x = (x.from < n) × (x.to < n)
 
-  pub some-over : (xs : List TransitionLine)
+  pub some_over : (xs : List TransitionLine)
       → ((x : TransitionLine) × Memᴰ x xs × Over x) ⊎ ((x : TransitionLine) → Memᴰ x xs → Under x)
-  some-over [] = inr (λ x m. absurd (Memᴰ.not-nil m))
-  some-over (x ∷ xs) = by (dec_lt x.from n) (dec_lt x.to n) (some-over xs)
+  some_over [] = inr (λ x m. absurd (Memᴰ.not-nil m))
+  some_over (x ∷ xs) = by (dec_lt x.from n) (dec_lt x.to n) (some_over xs)
     where
       by : Dec (x.from < n) → Dec (x.to < n)
           → ((y : TransitionLine) × Memᴰ y xs × Over y) ⊎ ((y : TransitionLine) → Memᴰ y xs → Under y)
@@ -51,20 +51,20 @@ module _ (n : ℕ) where
       let l = u x (Memᴰ.head refl) in
       rw (lt-ltb x.from n l.0, lt-ltb x.to n l.1) (below_true xs (λ y m. u y (Memᴰ.tail m)))
 
-  line-false : (x : TransitionLine) → Over x → (ltb x.from n && ltb x.to n) ≡ false
-  line-false x (inl l) = rw (le-ltb x.from n l) refl
-  line-false x (inr l) = rw (le-ltb x.to n l) (and-false (ltb x.from n))
+  line_false : (x : TransitionLine) → Over x → (ltb x.from n && ltb x.to n) ≡ false
+  line_false x (inl l) = rw (le-ltb x.from n l) refl
+  line_false x (inr l) = rw (le-ltb x.to n l) (and-false (ltb x.from n))
 
   below_false : {x : TransitionLine} (xs : List TransitionLine) → Memᴰ x xs → Over x → states_below n xs ≡ false
   unfolding states_below
-  below_false xs (Memᴰ.head {x = y} {xs = ys} q) o = rw (line-false y (subst Over q o)) refl
+  below_false xs (Memᴰ.head {x = y} {xs = ys} q) o = rw (line_false y (subst Over q o)) refl
   below_false xs (Memᴰ.tail {x = y} {xs = ys} m) o = rw (below_false ys m o) (and-false (ltb y.from n && ltb y.to n))
 
 -- ---- the tests
 
 module _ (h : FirstLine) (xs : List TransitionLine) where
-  pub first-true : h.first ≡ 0 → h.transitions ≡ length xs → first_line_right h xs ≡ true
-  first-true p q = rw (eq-eqb h.first 0 p) (eq-eqb h.transitions (length xs) q)
+  pub first_true : h.first ≡ 0 → h.transitions ≡ length xs → first_line_right h xs ≡ true
+  first_true p q = rw (eq-eqb h.first 0 p) (eq-eqb h.transitions (length xs) q)
 
   pub other_first : h.first ≢ 0 → first_line_right h xs ≡ false
   other_first p = rw (ne_eqb h.first 0 p) refl
@@ -72,8 +72,8 @@ module _ (h : FirstLine) (xs : List TransitionLine) where
   pub other_count : h.transitions ≢ length xs → first_line_right h xs ≡ false
   other_count p = rw (ne_eqb h.transitions (length xs) p) (and-false (eqb h.first 0))
 
-  pub states-true : StatesInRange h xs → states_in_range h xs ≡ true
-  states-true s =
+  pub states_true : StatesInRange h xs → states_in_range h xs ≡ true
+  states_true s =
       rw (lt-ltb h.first h.states s.first_below) (below_true h.states xs (λ x m. (s.from_below x m, s.to_below x m)))
 
   pub first_over : h.states ≤ h.first → states_in_range h xs ≡ false
@@ -82,8 +82,8 @@ module _ (h : FirstLine) (xs : List TransitionLine) where
   pub state_over : {x : TransitionLine} → Memᴰ x xs → Over h.states x → states_in_range h xs ≡ false
   state_over m o = rw (below_false h.states xs m o) (and-false (ltb h.first h.states))
 
-  pub limits-true : WithinLimits h xs → within_limits h xs ≡ true
-  limits-true w =
+  pub limits_true : WithinLimits h xs → within_limits h xs ≡ true
+  limits_true w =
       rw (le-leb h.states 128 w.few_states, le-leb (length (labels_of xs)) 255 w.few_labels)
       (le-leb (length (transitions_of xs)) 2048 w.few_transitions)
 
@@ -105,19 +105,19 @@ module _ (text out : List ℕ) where
   answers_unreadable q = converts (rw q refl) (rw q refl)
 
   module _ {h : FirstLine} {xs : List TransitionLine} (q : reading_of text ≡ readable h xs) where
-    pub answers-malformed : first_line_right h xs ≡ false → Converts text out Malformed out
+    pub answers_malformed : first_line_right h xs ≡ false → Converts text out Malformed out
     unfolding converted_of output_after
-    answers-malformed f = converts (rw (q, f) refl) (rw (q, f) refl)
+    answers_malformed f = converts (rw (q, f) refl) (rw (q, f) refl)
 
     module _ (f : first_line_right h xs ≡ true) where
-      pub answers-state : states_in_range h xs ≡ false → Converts text out StateOutOfRange out
+      pub answers_state : states_in_range h xs ≡ false → Converts text out StateOutOfRange out
       unfolding converted_of output_after
-      answers-state s = converts (rw (q, f, s) refl) (rw (q, f, s) refl)
+      answers_state s = converts (rw (q, f, s) refl) (rw (q, f, s) refl)
 
       module _ (s : states_in_range h xs ≡ true) where
-        pub answers-limits : within_limits h xs ≡ false → Converts text out OverLimits out
+        pub answers_limits : within_limits h xs ≡ false → Converts text out OverLimits out
         unfolding converted_of output_after
-        answers-limits w = converts (rw (q, f, s, w) refl) (rw (q, f, s, w) refl)
+        answers_limits w = converts (rw (q, f, s, w) refl) (rw (q, f, s, w) refl)
 
         module _ (w : within_limits h xs ≡ true) where
           pub answers_short : length out < length (body_of h.states xs) → Converts text out OutputShort out

@@ -20,9 +20,9 @@ use Rattle.aut.proofs.Reading.Readings.{readings_exactly}
 use Rattle.aut.proofs.Plans.Labels.{labels_numbered}
 use Rattle.aut.proofs.Plans.Transitions.{transitions_merged}
 use Rattle.aut.proofs.Plans.Body.{body_length, plan_said}
-use Rattle.aut.proofs.Statements.Answers.{some-over, first-true, other_first, other_count, states-true, first_over, state_over}
-use Rattle.aut.proofs.Statements.Answers.{limits-true, over_limits, answers_unreadable, answers-malformed, answers-state}
-use Rattle.aut.proofs.Statements.Answers.{answers-limits, answers_short, answers_wrote}
+use Rattle.aut.proofs.Statements.Answers.{some_over, first_true, other_first, other_count, states_true, first_over, state_over}
+use Rattle.aut.proofs.Statements.Answers.{limits_true, over_limits, answers_unreadable, answers_malformed, answers_state}
+use Rattle.aut.proofs.Statements.Answers.{answers_limits, answers_short, answers_wrote}
 
 module _ (text out : List ℕ) where
   -- ---- every call is refused with a number, or accepted
@@ -59,7 +59,7 @@ module _ (text out : List ℕ) where
     by_states w =
         elim (dec_lt h.first h.states) [
           | no over ↦ inl (38, omega arith, RefusedWith.first_over h xs w (omega arith))
-          | yes below ↦ elim (some-over h.states xs) [
+          | yes below ↦ elim (some_over h.states xs) [
             | inl (x, m, o) ↦ inl (38, omega arith, RefusedWith.state_over h xs w x m o)
             | inr u ↦
                 by_limits w (record { first_below = below; from_below = λ x m. (u x m).0; to_below = λ x m. (u x m).1 })
@@ -105,7 +105,7 @@ module _ (text out : List ℕ) where
     read = (readings_exactly text h xs).1
 
     first_right_lem : WellFormedText text h xs → first_line_right h xs ≡ true
-    first_right_lem w = first-true h xs w.starts w.counted
+    first_right_lem w = first_true h xs w.starts w.counted
 
   refuses : {k : ℕ} → RefusedWith text (length out) k → Refuses k
   refuses (RefusedWith.no_reading none) =
@@ -115,26 +115,26 @@ module _ (text out : List ℕ) where
       no_reading unreadable q = q
       no_reading (readable h xs) q = absurd (none h xs ((readings_exactly text h xs).0 q))
   refuses (RefusedWith.other_count h xs r other) =
-      refusing Malformed (answers-malformed text out (read r) (other_count h xs other)) refl refl
+      refusing Malformed (answers_malformed text out (read r) (other_count h xs other)) refl refl
   refuses (RefusedWith.other_first h xs r other) =
-      refusing Malformed (answers-malformed text out (read r) (other_first h xs other)) refl refl
+      refusing Malformed (answers_malformed text out (read r) (other_first h xs other)) refl refl
   refuses (RefusedWith.first_over h xs w l) =
-      refusing StateOutOfRange (answers-state text out (read w.reads) (first_right_lem w) (first_over h xs l)) refl refl
+      refusing StateOutOfRange (answers_state text out (read w.reads) (first_right_lem w) (first_over h xs l)) refl refl
   refuses (RefusedWith.state_over h xs w x m o) =
-      refusing StateOutOfRange (answers-state text out (read w.reads) (first_right_lem w) (state_over h xs m o)) refl refl
+      refusing StateOutOfRange (answers_state text out (read w.reads) (first_right_lem w) (state_over h xs m o)) refl refl
   refuses (RefusedWith.over_limits h xs w s o) =
       refusing OverLimits
-      (answers-limits text out (read w.reads) (first_right_lem w) (states-true h xs s) (over_limits h xs o)) refl refl
+      (answers_limits text out (read w.reads) (first_right_lem w) (states_true h xs s) (over_limits h xs o)) refl refl
   refuses (RefusedWith.output_short h xs w s l short) =
       refusing OutputShort
-      (answers_short text out (read w.reads) (first_right_lem w) (states-true h xs s) (limits-true h xs l) short) refl refl
+      (answers_short text out (read w.reads) (first_right_lem w) (states_true h xs s) (limits_true h xs l) short) refl refl
 
   module _ (h : FirstLine) (xs : List TransitionLine) (a : AcceptedWith text (length out) h xs) where
     writes : Converts text out (Wrote (length (body_of h.states xs)))
         (body_of h.states xs ++ drop (length (body_of h.states xs)) out)
     writes =
-        answers_wrote text out (read a.well_formed.reads) (first_right_lem a.well_formed) (states-true h xs a.states_in_range_holds)
-        (limits-true h xs a.within_limits_holds) a.room_enough
+        answers_wrote text out (read a.well_formed.reads) (first_right_lem a.well_formed) (states_true h xs a.states_in_range_holds)
+        (limits_true h xs a.within_limits_holds) a.room_enough
 
   module _ (answer : Converted) (out' : List ℕ) (c : Converts text out answer out') where
     same_answer : {r : Converted} {o : List ℕ} → Converts text out r o → (answer ≡ r) × (out' ≡ o)

@@ -31,7 +31,7 @@ use Rattle.aut.specs.declared.converting.Outcome.TheVariants.{Malformed, StateOu
 use Rattle.aut.specs.declared.Converted.{Converted}
 use Rattle.aut.proofs.Plans.Transitions.{transitions_merged}
 use Rattle.aut.proofs.Plans.Body.{body_length}
-use Rattle.aut.proofs.Statements.Answers.{state_over, answers_unreadable, answers-malformed, answers-state, answers-limits, answers_short, answers_wrote}
+use Rattle.aut.proofs.Statements.Answers.{state_over, answers_unreadable, answers_malformed, answers_state, answers_limits, answers_short, answers_wrote}
 use Rattle.aut.proofs.Steps.KeyOrder as keys
 use Rattle.aut.proofs.Steps.HeldLabels as labels
 
@@ -136,7 +136,7 @@ module _ (s : List ℕ) where
     malformed_answered b = go (text_readable s) refl b
       where
         go : (a : Bool) → text_readable s ≡ a → (a && first_line_right h xs) ≡ false → Converts s out Converted.Malformed out
-        go true e f = answers-malformed s out (is_read e) f
+        go true e f = answers_malformed s out (is_read e) f
         go false e f = unreadable_answered e
 
     module _ (a : right ≡ true) where
@@ -144,11 +144,11 @@ module _ (s : List ℕ) where
       parts = and_parts (text_readable s) (first_line_right h xs) a
 
       pub range_answered : states_in_range h xs ≡ false → Converts s out Converted.StateOutOfRange out
-      range_answered b = answers-state s out (is_read parts.0) parts.1 b
+      range_answered b = answers_state s out (is_read parts.0) parts.1 b
 
       module _ (b : states_in_range h xs ≡ true) where
         pub limits_answered : within_limits h xs ≡ false → Converts s out Converted.OverLimits out
-        limits_answered c = answers-limits s out (is_read parts.0) parts.1 b c
+        limits_answered c = answers_limits s out (is_read parts.0) parts.1 b c
 
         pub short_answered : within_limits h xs ≡ true → length out < length (body_of h.states xs) → Converts s out Converted.OutputShort out
         short_answered c l = answers_short s out (is_read parts.0) parts.1 b c l

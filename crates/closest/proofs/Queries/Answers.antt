@@ -50,10 +50,10 @@ abbrev PassedBy : (ℕ → Bool) → List Reached → Found → Type 0
 PassedBy v l everywhere = passed_before v (states_of l) ≡ length (states_of l)
 PassedBy v l (fails_at x) = NextFails l (passed_before v (states_of l)) x
 
-passed-by : (v : ℕ → Bool) (l : List Reached) → PassedBy v l (first_failing v l)
+passed_by : (v : ℕ → Bool) (l : List Reached) → PassedBy v l (first_failing v l)
 unfolding first_failing passed_before
-passed-by v [] = refl
-passed-by v (y ∷ l) = go (v y.state) refl (first_failing v l) (passed-by v l)
+passed_by v [] = refl
+passed_by v (y ∷ l) = go (v y.state) refl (first_failing v l) (passed_by v l)
   where
     go : (b : Bool) → v y.state ≡ b → (f : Found) → PassedBy v l f → PassedBy v (y ∷ l) (pick b f (fails_at y))
     go true e everywhere h = rw e (ap suc h)
@@ -66,9 +66,9 @@ all_states q [] e = refl
 all_states q (x ∷ l) e = ap₂ ◌&&◌ e.0 (all_states q l e.1)
 
 -- the reader's refusal
-pub finds-unread : (s t : List ℕ) {x : Refusal} → sheet_check s ≡ Failed x → Finds s t (Refused x) t
+pub finds_unread : (s t : List ℕ) {x : Refusal} → sheet_check s ≡ Failed x → Finds s t (Refused x) t
 unfolding closest_of table_searched query_check
-finds-unread s t {x} e =
+finds_unread s t {x} e =
     let same : Refused x ≡ closest_of s t = sym (rw e refl) in
     (same, (ap reported_closest same, sym (rw e refl)))
 
@@ -80,36 +80,36 @@ module _ (s : List ℕ) (accepted : sheet_check s ≡ Passed) where
   well_formed = (bodies_kept s accepted).plan_kept
 
   -- state 0, and then those of one step or more
-  pub first-is-0 : reachable_states p ≡ reached_at 0 0 ∷ layers_from p (state_count p) 1
+  pub first_is_0 : reachable_states p ≡ reached_at 0 0 ∷ layers_from p (state_count p) 1
   unfolding layers_from
-  first-is-0 = ap (λ (l : List Reached). l ++ layers_from p (state_count p) 1) (layer_zero p well_formed)
+  first_is_0 = ap (λ (l : List Reached). l ++ layers_from p (state_count p) 1) (layer_zero p well_formed)
 
   -- where no loop can be reached from state 0, none can be from a reachable state
-  way-settled : loop_free p 0 ≡ true → {n t : ℕ} → WayOf p n t → settled (successors p) (state_count p) t ≡ true
-  way-settled free stay = free
-  way-settled free (onward {s = u} {t = t} w m) = successor_settled (successors p) (state_count p) u t (way-settled free w) m
+  way_settled : loop_free p 0 ≡ true → {n t : ℕ} → WayOf p n t → settled (successors p) (state_count p) t ≡ true
+  way_settled free stay = free
+  way_settled free (onward {s = u} {t = t} w m) = successor_settled (successors p) (state_count p) u t (way_settled free w) m
 
-  pub way-taken : loop_free p 0 ≡ true → {n t : ℕ} → WayOf p n t → (ltb t (state_count p) && loop_free p t) ≡ true
-  way-taken free w = ap₂ ◌&&◌ (lt-ltb _ _ (way_below p well_formed w)) (way-settled free w)
+  pub way_taken : loop_free p 0 ≡ true → {n t : ℕ} → WayOf p n t → (ltb t (state_count p) && loop_free p t) ≡ true
+  way_taken free w = ap₂ ◌&&◌ (lt-ltb _ _ (way_below p well_formed w)) (way_settled free w)
 
-  abbrev each-led : Each (Led p) (reachable_states p)
-  each-led = order_each p (suc (state_count p)) 0
+  abbrev each_led : Each (Led p) (reachable_states p)
+  each_led = order_each p (suc (state_count p)) 0
 
   all_there : all_pass (λ state. ltb state (state_count p)) (states_in_order s) ≡ true
-  all_there = all_states (λ state. ltb state (state_count p)) (reachable_states p) (each_map (λ x (w : Led p x). lt-ltb x.state (state_count p) (way_below p well_formed w)) (reachable_states p) each-led)
+  all_there = all_states (λ state. ltb state (state_count p)) (reachable_states p) (each_map (λ x (w : Led p x). lt-ltb x.state (state_count p) (way_below p well_formed w)) (reachable_states p) each_led)
 
-  same-free : all_pass (λ state. loop_free p state) (states_in_order s) ≡ loop_free p 0
+  same_free : all_pass (λ state. loop_free p state) (states_in_order s) ≡ loop_free p 0
   unfolding all_pass
-  same-free = go (loop_free p 0) refl
+  same_free = go (loop_free p 0) refl
     where
       go : (b : Bool) → loop_free p 0 ≡ b → all_pass (λ state. loop_free p state) (states_in_order s) ≡ loop_free p 0
-      go true e = all_states (λ state. loop_free p state) (reachable_states p) (each_map (λ x (w : Led p x). way-settled e w) (reachable_states p) each-led) ∙ sym e
-      go false e = ap (λ (l : List Reached). all_pass (λ state. loop_free p state) (states_of l)) first-is-0 ∙ rw e refl
+      go true e = all_states (λ state. loop_free p state) (reachable_states p) (each_map (λ x (w : Led p x). way_settled e w) (reachable_states p) each_led) ∙ sym e
+      go false e = ap (λ (l : List Reached). all_pass (λ state. loop_free p state) (states_of l)) first_is_0 ∙ rw e refl
 
   -- "Refusals go as for a query of state 0"
   pub same_check : (t : List ℕ) → in_turn_check s (states_in_order s) t ≡ query_check s 0 t
   unfolding in_turn_check query_check
-  same_check t = rw (all_there, lt-ltb 0 (state_count p) well_formed.some_states, same-free)
+  same_check t = rw (all_there, lt-ltb 0 (state_count p) well_formed.some_states, same_free)
 
   -- of a table that is not refused
   pub closest-is : Takes s accepted 0 → (t : List ℕ) → Fine s accepted t → closest_of s t ≡ answer_found (closest_found s t) (visits (searched s t))
@@ -126,9 +126,9 @@ module _ (s : List ℕ) (accepted : sheet_check s ≡ Passed) where
     unfolding closest_of
     answer_is = ap (λ (c : Check). answer_closest (closest_found s t) (visits (searched s t)) c (count_right s t)) (sym (same_check t))
 
-    same-table : table_in_turn s (states_in_order s) t ≡ table_searched s t
+    same_table : table_in_turn s (states_in_order s) t ≡ table_searched s t
     unfolding table_in_turn table_searched
-    same-table = ap (λ (c : Check). left_by s (searched s t) t c (count_right s t)) (same_check t)
+    same_table = ap (λ (c : Check). left_by s (searched s t) t c (count_right s t)) (same_check t)
 
     module _ {order marks : List ℕ} {count : ℕ} (ordered : Ordered p order count) (marked : StepsMarked p marks) where
       as_many : count ≡ length (states_in_order s)
@@ -166,7 +166,7 @@ module _ (s : List ℕ) (accepted : sheet_check s ≡ Passed) where
           }
 
       right : ByFound (closest_found s t)
-      right = by_found (closest_found s t) (passed-by (holds_by s t) (reachable_states p)) (says p well_formed (holds_by s t))
+      right = by_found (closest_found s t) (passed_by (holds_by s t) (reachable_states p)) (says p well_formed (holds_by s t))
 
       -- by the answer of queries in turn
       module _ {q : InTurn} {u : List ℕ} (called : QueriesInTurn s (take count order) t q u) where
@@ -174,20 +174,20 @@ module _ (s : List ℕ) (accepted : sheet_check s ≡ Passed) where
         call = subst (λ (l : List ℕ). QueriesInTurn s l t q u) ordered.in_order called
 
         finds : {r : Closest} → r ≡ closest_of s t → Finds s t r u
-        finds e = (e, (ap reported_closest e, call.1.1 ∙ same-table))
+        finds e = (e, (ap reported_closest e, call.1.1 ∙ same_table))
 
-        pub finds-refused : {x : Refusal} → q ≡ TurnRefused x → Finds s t (Refused x) u
+        pub finds_refused : {x : Refusal} → q ≡ TurnRefused x → Finds s t (Refused x) u
         unfolding in_turn_of
-        finds-refused {x} e = go (in_turn_check s (states_in_order s) t) (count_right s t) refl refl (sym e ∙ call.0)
+        finds_refused {x} e = go (in_turn_check s (states_in_order s) t) (count_right s t) refl refl (sym e ∙ call.0)
           where
             go : (c : Check) (b : Bool) → in_turn_check s (states_in_order s) t ≡ c → count_right s t ≡ b → TurnRefused x ≡ answer_in_turn passed (visits (searched s t)) c b → Finds s t (Refused x) u
             go Passed true f g h = let z : ◌≡◌ {A = ℕ} 0 1 = cc in absurd (omega arith)
             go Passed false f g h = let z : ◌≡◌ {A = ℕ} 0 1 = cc in absurd (omega arith)
             go (Failed y) b f g h = let same : x ≡ y = cc in finds (ap Refused same ∙ sym (answer_is ∙ ap₂ (answer_closest (closest_found s t) (visits (searched s t))) f g))
 
-        pub finds-wrong-count : q ≡ TurnWrongCount → Finds s t WrongCount u
+        pub finds_wrong_count : q ≡ TurnWrongCount → Finds s t WrongCount u
         unfolding in_turn_of
-        finds-wrong-count e = go (in_turn_check s (states_in_order s) t) (count_right s t) refl refl (sym e ∙ call.0)
+        finds_wrong_count e = go (in_turn_check s (states_in_order s) t) (count_right s t) refl refl (sym e ∙ call.0)
           where
             go : (c : Check) (b : Bool) → in_turn_check s (states_in_order s) t ≡ c → count_right s t ≡ b → TurnWrongCount ≡ answer_in_turn passed (visits (searched s t)) c b → Finds s t WrongCount u
             go Passed true f g h = let z : ◌≡◌ {A = ℕ} 0 1 = cc in absurd (omega arith)
@@ -213,8 +213,8 @@ module _ (s : List ℕ) (accepted : sheet_check s ≡ Passed) where
             go Passed false f g h = let z : ◌≡◌ {A = ℕ} 0 1 = cc in absurd (omega arith)
             go (Failed y) b f g h = let z : ◌≡◌ {A = ℕ} 0 1 = cc in absurd (omega arith)
 
-        pub answer-required : {k n : ℕ} → q ≡ Judged k n → AnswerRequires order count marks k
-        answer-required e = subst (AnswerRequires order count marks) (sym (told e).passed_is) right.required
+        pub answer_required : {k n : ℕ} → q ≡ Judged k n → AnswerRequires order count marks k
+        answer_required e = subst (AnswerRequires order count marks) (sym (told e).passed_is) right.required
 
-        pub finds-answer : {k n : ℕ} {r : Closest} → q ≡ Judged k n → Answered order count marks k n r → Finds s t r u
-        finds-answer {k} {n} {r} e a = (told e).answer (right.answered n r (subst (λ (j : ℕ). Answered order count marks j n r) (told e).passed_is a))
+        pub finds_answer : {k n : ℕ} {r : Closest} → q ≡ Judged k n → Answered order count marks k n r → Finds s t r u
+        finds_answer {k} {n} {r} e a = (told e).answer (right.answered n r (subst (λ (j : ℕ). Answered order count marks j n r) (told e).passed_is a))

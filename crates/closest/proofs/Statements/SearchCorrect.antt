@@ -35,7 +35,7 @@ use Rattle.closest.specs.Finding.{Found, everywhere, fails_at, states_of, states
 use Rattle.closest.specs.ClosestCorrect.{ReachableState, RightlyFound, TakenBy, ComesFromReachable, NeededByTaken, ClosestCorrect, AsQueries}
 use Rattle.closest.proofs.Ways.Order.{Led, order_each, listed, states_in_order_lem, Says, says}
 use Rattle.closest.proofs.Ways.Later.{reachable_exactly}
-use Rattle.closest.proofs.Queries.Answers.{first-is-0, way-taken}
+use Rattle.closest.proofs.Queries.Answers.{first_is_0, way_taken}
 use Rattle.closest.proofs.Queries.InRow.{InRow, in_row, up_to_first}
 use Rattle.closest.proofs.Queries.Looked.{among_looked, looked_among}
 use Rattle.closest.proofs.Queries.UpToAnswer.{UpTo, looked_up_to, up_to_looked, failing_looked, looked_failing}
@@ -62,7 +62,7 @@ module _ (s t : List ℕ) (accepted : sheet_check s ≡ Passed) (first : Takes s
   free = (takes_valid s accepted 0 first).state_settled
 
   pub reached_taken : (state : ℕ) → ReachableState s state → Takes s accepted state
-  reached_taken state r = way-taken s accepted free ((reachable_exactly p state).1 r).1
+  reached_taken state r = way_taken s accepted free ((reachable_exactly p state).1 r).1
 
   settled_root : (state : ℕ) → Takes s accepted state → Settled s accepted (cell 0 0 state)
   settled_root state h = takes_valid s accepted state h
@@ -200,10 +200,10 @@ module _ (s t : List ℕ) (accepted : sheet_check s ≡ Passed) (first : Takes s
 
   each_state : (l : List Reached) → Each (Led p) l → Each (Takes s accepted) (states_of l)
   each_state [] e = tt
-  each_state (x ∷ l) e = (way-taken s accepted free e.0, each_state l e.1)
+  each_state (x ∷ l) e = (way_taken s accepted free e.0, each_state l e.1)
 
   row : InRow s accepted states t
-  row = go (states_in_order s) (ap states_of (first-is-0 s accepted)) (each_state (reachable_states p) (order_each p (suc (state_count p)) 0))
+  row = go (states_in_order s) (ap states_of (first_is_0 s accepted)) (each_state (reachable_states p) (order_each p (suc (state_count p)) 0))
     where
       go : (l : List ℕ) → l ≡ 0 ∷ states_of (layers_from p (state_count p) 1) → Each (Takes s accepted) l → InRow s accepted l t
       go [] e each = let z : ◌≡◌ {A = ℕ} 0 1 = cc in absurd (omega arith)

@@ -44,15 +44,15 @@ small-enough t n b = rw (le-leb (tree_size t) 64 n, le-leb (binders t) 6 b)
 
 -- what a tree that does not fit, or has no room, or has it is answered with
 module _ (t : Tree) (room : ℕ) where
-  pub tree-large : (64 < tree_size t) ⊎ (6 < binders t) → answer_tree t room ≡ TooLarge
-  tree-large over = rw (too_large t over)
+  pub tree_large : (64 < tree_size t) ⊎ (6 < binders t) → answer_tree t room ≡ TooLarge
+  tree_large over = rw (too_large t over)
 
   module _ (nodes : tree_size t ≤ 64) (bound : binders t ≤ 6) where
-    pub tree-short : room < length (encode t) → answer_tree t room ≡ Refused OutputShort
-    tree-short less = rw (small-enough t nodes bound, lt-leb (length (encode t)) room less)
+    pub tree_short : room < length (encode t) → answer_tree t room ≡ Refused OutputShort
+    tree_short less = rw (small-enough t nodes bound, lt-leb (length (encode t)) room less)
 
-    pub tree-wrote : length (encode t) ≤ room → answer_tree t room ≡ Wrote (length (encode t))
-    tree-wrote enough = rw (small-enough t nodes bound, le-leb (length (encode t)) room enough)
+    pub tree_wrote : length (encode t) ≤ room → answer_tree t room ≡ Wrote (length (encode t))
+    tree_wrote enough = rw (small-enough t nodes bound, le-leb (length (encode t)) room enough)
 
 -- a refused call leaves the output as it was
 unchanged : (body out : List ℕ) (answer : Translated) → (reported_translation answer).number ≢ 0
@@ -68,42 +68,42 @@ module _ (s p : List ℕ) where
   reading_on = reading_of (entry_count (actions_body s)) p
 
   module _ (room : ℕ) where
-    sheet-answer : (c : Check) → sheet_check s ≡ c → translated_of s p room ≡ answer_sheet s p c room
+    sheet_answer : (c : Check) → sheet_check s ≡ c → translated_of s p room ≡ answer_sheet s p c room
     unfolding translated_of
-    sheet-answer c e = ap (λ (x : Check). answer_sheet s p x room) e
+    sheet_answer c e = ap (λ (x : Check). answer_sheet s p x room) e
 
     pub answers_refused : {x : Refusal} → sheet_check s ≡ Failed x → translated_of s p room ≡ Refused x
-    answers_refused {x} e = sheet-answer (Failed x) e
+    answers_refused {x} e = sheet_answer (Failed x) e
 
     module _ (passed : sheet_check s ≡ Passed) where
-      reading-answer : (r : Reading) → reading_on ≡ r → translated_of s p room ≡ answer_reading s r room
-      reading-answer r q = sheet-answer Passed passed ∙ ap (λ (x : Reading). answer_reading s x room) q
+      reading_answer : (r : Reading) → reading_on ≡ r → translated_of s p room ≡ answer_reading s r room
+      reading_answer r q = sheet_answer Passed passed ∙ ap (λ (x : Reading). answer_reading s x room) q
 
-      pub answers-malformed : reading_on ≡ malformed → translated_of s p room ≡ Malformed
-      answers-malformed q = reading-answer malformed q
+      pub answers_malformed : reading_on ≡ malformed → translated_of s p room ≡ Malformed
+      answers_malformed q = reading_answer malformed q
 
       module _ {every : Bool} {R : Pattern} (read : reading_on ≡ readable every R) where
-        pub tree-answer : translated_of s p room ≡ answer_tree (tree_for s every R) room
-        tree-answer = reading-answer (readable every R) read
+        pub tree_answer : translated_of s p room ≡ answer_tree (tree_for s every R) room
+        tree_answer = reading_answer (readable every R) read
 
-        pub answers-large : (64 < tree_size (tree_for s every R)) ⊎ (6 < binders (tree_for s every R)) → translated_of s p room ≡ TooLarge
-        answers-large over = tree-answer ∙ tree-large (tree_for s every R) room over
+        pub answers_large : (64 < tree_size (tree_for s every R)) ⊎ (6 < binders (tree_for s every R)) → translated_of s p room ≡ TooLarge
+        answers_large over = tree_answer ∙ tree_large (tree_for s every R) room over
 
         module _ (nodes : tree_size (tree_for s every R) ≤ 64) (bound : binders (tree_for s every R) ≤ 6) where
           pub answers_short : room < length (encode (tree_for s every R)) → translated_of s p room ≡ Refused OutputShort
-          answers_short less = tree-answer ∙ tree-short (tree_for s every R) room nodes bound less
+          answers_short less = tree_answer ∙ tree_short (tree_for s every R) room nodes bound less
 
           pub answers_wrote : length (encode (tree_for s every R)) ≤ room
               → translated_of s p room ≡ Wrote (length (encode (tree_for s every R)))
-          answers_wrote enough = tree-answer ∙ tree-wrote (tree_for s every R) room nodes bound enough
+          answers_wrote enough = tree_answer ∙ tree_wrote (tree_for s every R) room nodes bound enough
 
   module _ (out : List ℕ) where
-    pub leaves-written : {every : Bool} {R : Pattern} → reading_on ≡ readable every R → (n : ℕ) → translated_of s p (length out) ≡ Wrote n
+    pub leaves_written : {every : Bool} {R : Pattern} → reading_on ≡ readable every R → (n : ℕ) → translated_of s p (length out) ≡ Wrote n
         → output_after s p out ≡ encode (tree_for s every R) ++ drop n out
     unfolding output_after
-    leaves-written read n wrote = rw (read, wrote)
+    leaves_written read n wrote = rw (read, wrote)
 
-    pub leaves-unchanged : (reported_translation (translated_of s p (length out))).number ≢ 0
+    pub leaves_unchanged : (reported_translation (translated_of s p (length out))).number ≢ 0
         → ((reported_translation (translated_of s p (length out))).size ≡ 0) × (output_after s p out ≡ out)
     unfolding output_after
-    leaves-unchanged h = unchanged (body_of s reading_on) out (translated_of s p (length out)) h
+    leaves_unchanged h = unchanged (body_of s reading_on) out (translated_of s p (length out)) h

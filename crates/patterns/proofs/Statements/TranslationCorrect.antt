@@ -38,12 +38,12 @@ use Rattle.patterns.proofs.Reading.Readings.{readings_exactly}
 use Rattle.patterns.proofs.Statements.Answers.{
   reading_on,
   answers_refused,
-  answers-malformed,
-  answers-large,
+  answers_malformed,
+  answers_large,
   answers_short,
   answers_wrote,
-  leaves-written,
-  leaves-unchanged,
+  leaves_written,
+  leaves_unchanged,
 }
 use Rattle.patterns.proofs.Statements.NewRule.{means_sentence}
 
@@ -127,14 +127,14 @@ module _ (s p : List ℕ) where
 
     malformed_reports : WellFormedSheet s → ((every : Bool) (R : Pattern) → Says s p every R → ⊥)
         → (r : Reading) → reading_on s p ≡ r → Reports 30 0
-    malformed_reports kept none malformed q = reports Malformed (omega arith) (answers-malformed s p room (passed kept) q)
+    malformed_reports kept none malformed q = reports Malformed (omega arith) (answers_malformed s p room (passed kept) q)
     malformed_reports kept none (readable every R) q = absurd (none every R (says kept q))
 
     refused_reports : {k m : ℕ} → RefusedWith s p room k m → Reports k m
     refused_reports (RefusedWith.faulty_sheet f) = sheet_reports f (sheet_check s) refl
     refused_reports (RefusedWith.unreadable kept none) = malformed_reports kept none (reading_on s p) refl
     refused_reports (RefusedWith.large every R h over) =
-        reports TooLarge (omega arith) (answers-large s p room (passed h.accepted) (read_as h) over)
+        reports TooLarge (omega arith) (answers_large s p room (passed h.accepted) (read_as h) over)
     refused_reports (RefusedWith.output_short every R h f less) =
         reports (Refused OutputShort) (omega arith)
         (answers_short s p room (passed h.accepted) (read_as h) f.few_nodes f.few_binders less)
@@ -168,7 +168,7 @@ module _ (s p : List ℕ) where
         → take (reported_translation answer).size (output_after s p out) ≡ encode (tree_for s every R)
     front {every} {R} x =
         rw (wrote (length out) x)
-        (ap (take (length (encode (tree_for s every R)))) (leaves-written s p out (read_as x.says) _ (wrote (length out) x))
+        (ap (take (length (encode (tree_for s every R)))) (leaves_written s p out (read_as x.says) _ (wrote (length out) x))
         ∙ take_at (encode (tree_for s every R)) _ _ refl)
 
     answered : TranslationAnswered s p out answer (output_after s p out)
@@ -183,9 +183,9 @@ module _ (s p : List ℕ) where
           ap (λ (t : Translated). (reported_translation t).place) (wrote (length out) x.2);
       size_is = λ every R x. ap (λ (t : Translated). (reported_translation t).size) (wrote (length out) x);
       output_is = λ every R x.
-          rw (wrote (length out) x) (leaves-written s p out (read_as x.says) _ (wrote (length out) x));
+          rw (wrote (length out) x) (leaves_written s p out (read_as x.says) _ (wrote (length out) x));
       means = λ every R x. subst (MeansSentence s every R) (sym (front x)) (means_sentence x.says x.fits);
-      refused = leaves-unchanged s p out;
+      refused = leaves_unchanged s p out;
     }
 
 pub translation_correct : TranslationCorrect

@@ -27,7 +27,7 @@ use Rattle.patterns.specs.declared.Translated.{Translated}
 use Rattle.patterns.specs.declared.Translated.TheVariants.{Wrote, TooLarge, Refused}
 use Rattle.sheet.specs.declared.Refusal.TheVariants.{OutputShort}
 use Rattle.patterns.proofs.Translation.Sizes.{short_pattern}
-use Rattle.patterns.proofs.Statements.Answers.{tree-large, tree-short, tree-wrote}
+use Rattle.patterns.proofs.Statements.Answers.{tree_large, tree_short, tree_wrote}
 use Rattle.patterns.proofs.Steps.Parts.{written_part_lem}
 use Rattle.patterns.proofs.Steps.ChoiceSteps.{told_followed}
 
@@ -105,7 +105,7 @@ module _ {r p : List ℕ} (h : Readable r p) where
       -- it does not fit
       pub answered_exceeded : x ≡ Exceeded → (out : List ℕ) → BodyAnswered r p out TooLarge out
       answered_exceeded e out = record {
-        answer = λ every R q. sym (tree-large (translation every R (tree_of r)) (length out)
+        answer = λ every R q. sym (tree_large (translation every R (tree_of r)) (length out)
             (over (subst (Progressed (translation every R (tree_of r)) 0 0 made made') e (whole_made every R q))));
         left = λ every R q. refl;
       }
@@ -138,10 +138,10 @@ module _ {r p : List ℕ} (h : Readable r p) where
                 elim (dec_lt (length out) (1 + 3 * n)) [
                   | yes g ↦
                       let k = w.short g in
-                      (k.0 ∙ sym (tree-short t (length out) nodes bound (omega (arith, body_length f))), k.1 ∙ ap (leaves (encode t) out) (sym k.0))
+                      (k.0 ∙ sym (tree_short t (length out) nodes bound (omega (arith, body_length f))), k.1 ∙ ap (leaves (encode t) out) (sym k.0))
                   | no g ↦
                       let k = w.wrote (omega arith) in (
-                        k.0 ∙ ap Wrote (sym (body_length f)) ∙ sym (tree-wrote t (length out) nodes bound (omega (arith, body_length f))),
+                        k.0 ∙ ap Wrote (sym (body_length f)) ∙ sym (tree_wrote t (length out) nodes bound (omega (arith, body_length f))),
                         k.1 ∙ ap (λ (v : List ℕ). v ++ drop (1 + 3 * n) out) (body_encoded f o) ∙ ap (leaves (encode t) out) (sym k.0),
                       )
                 ]
@@ -149,7 +149,7 @@ module _ {r p : List ℕ} (h : Readable r p) where
   -- a pattern too long to become 64 nodes
   pub answered_long : 189 < length p → (out : List ℕ) → BodyAnswered r p out TooLarge out
   answered_long l out = record {
-    answer = λ every R q. sym (tree-large (translation every R (tree_of r)) (length out) (inl (over every R q)));
+    answer = λ every R q. sym (tree_large (translation every R (tree_of r)) (length out) (inl (over every R q)));
     left = λ every R q. refl;
   }
     where

@@ -19,7 +19,7 @@ use Rattle.patterns.specs.declared.Translated.{Translated}
 use Rattle.patterns.specs.declared.Translated.TheVariants.{Malformed, Refused}
 use Rattle.patterns.proofs.Reading.Passing.{readable_bytes}
 use Rattle.patterns.proofs.Reading.Readings.{readings_exactly}
-use Rattle.patterns.proofs.Statements.Answers.{reading_on, answers_refused, answers-malformed, tree-answer}
+use Rattle.patterns.proofs.Statements.Answers.{reading_on, answers_refused, answers_malformed, tree_answer}
 
 -- an answer, and the output that it leaves
 answered : (s p out : List ℕ) (x : Translated) {out' : List ℕ} → x ≡ translated_of s p (length out) → out' ≡ leaves (body_of s (reading_on s p)) out x
@@ -36,7 +36,7 @@ pub translates_refused : (s p out : List ℕ) {x : Refusal} → sheet_check s �
 translates_refused s p out {x} e = answered s p out (Refused x) (sym (answers_refused s p (length out) e)) refl
 
 pub translates_malformed : (s p out : List ℕ) → sheet_check s ≡ Passed → is_readable (reading_on s p) ≡ false → Translates s p out Malformed out
-translates_malformed s p out passed q = answered s p out Malformed (sym (answers-malformed s p (length out) passed (none (reading_on s p) q))) refl
+translates_malformed s p out passed q = answered s p out Malformed (sym (answers_malformed s p (length out) passed (none (reading_on s p) q))) refl
   where
     none : (r : Reading) → is_readable r ≡ false → r ≡ malformed
     none malformed e = refl
@@ -61,5 +61,5 @@ module _ (s p : List ℕ) (passed : sheet_check s ≡ Passed) (q : is_readable (
       let a = subst (λ (v : List ℕ). BodyAnswered v p out x out') e b in
       let r = readable_bytes (reading_on s p) q in
       let bytes = ((readings_exactly (entry_count (actions_body s)) p r.0 r.1).0 r.2).0 in
-      answered s p out x (a.answer r.0 r.1 bytes ∙ sym (tree-answer s p (length out) passed r.2))
+      answered s p out x (a.answer r.0 r.1 bytes ∙ sym (tree_answer s p (length out) passed r.2))
       (a.left r.0 r.1 bytes ∙ ap (λ (v : Reading). leaves (body_of s v) out x) (sym r.2))

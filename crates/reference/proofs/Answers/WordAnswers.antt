@@ -46,15 +46,15 @@ module _ {s : List ℕ} (kept : WellFormedSheet s) (r : List ℕ) (rule : r ≡ 
       go (inl a) = inl a
       go (inr a) = inr (a ∙ zeros 6 k)
 
-  first-sets : SixSets (state_count (plan_body s)) words
-  first-sets = record { six = begun.sized ∙ length-replicate {A = ℕ} 6 0; below = λ k. go k (each k) }
+  first_sets : SixSets (state_count (plan_body s)) words
+  first_sets = record { six = begun.sized ∙ length-replicate {A = ℕ} 6 0; below = λ k. go k (each k) }
     where
       go : (k : ℕ) → (get_or words k 0 ≡ full) ⊎ (get_or words k 0 ≡ 0) → get_or words k 0 < 2 ^ state_count (plan_body s)
       go k (inl q) = omega (arith, ones_lt (state_count (plan_body s)))
       go k (inr q) = omega (arith, pow_pos (state_count (plan_body s)))
 
-  first-ready : Ready s 0 words
-  first-ready = record {
+  first_ready : Ready s 0 words
+  first_ready = record {
     inside = λ b c l e t i q.
         let apart = begun.same (node_x (rule_body s) b) (λ d a k g x.
         omega (arith, ap (node_kind (rule_body s)) (bound_one kept d b k l (omega arith) (omega arith) (omega arith) (omega arith) x))) in
@@ -67,18 +67,18 @@ module _ (s : List ℕ) where
   promised : {r : Reference} → r ≡ reference_of s → References s r
   promised q = (q, ap reported_reference q)
 
-  pub answer-refused : (x : Refusal) → sheet_check s ≡ Failed x → References s (Refused x)
-  answer-refused x e = promised (promised_refused s x e)
+  pub answer_refused : (x : Refusal) → sheet_check s ≡ Failed x → References s (Refused x)
+  answer_refused x e = promised (promised_refused s x e)
 
-  pub start-asked : sheet_check s ≡ Passed → (r : List ℕ) → r ≡ rule_body s → Restartable r 0 8
-  start-asked e r rule = restartable (sheet_kept s e) rule 0 8 (sheet_kept s e).bodies_kept.rule_kept.some_nodes (omega arith) (omega arith)
+  pub start_asked : sheet_check s ≡ Passed → (r : List ℕ) → r ≡ rule_body s → Restartable r 0 8
+  start_asked e r rule = restartable (sheet_kept s e) rule 0 8 (sheet_kept s e).bodies_kept.rule_kept.some_nodes (omega arith) (omega arith)
 
   module _ (e : sheet_check s ≡ Passed) (p : List ℕ) (plan : p ≡ plan_body s) (count : ℕ) (states : count ≡ state_count p) where
     count_is : count ≡ state_count (plan_body s)
     count_is = states ∙ ap state_count plan
 
-    pub answer-large : 64 < count → References s (Refused TooManyStates)
-    answer-large h = promised (promised_large s e (omega (arith, count_is)))
+    pub answer_large : 64 < count → References s (Refused TooManyStates)
+    answer_large h = promised (promised_large s e (omega (arith, count_is)))
 
     module _ (few : count ≤ 64) (a : List ℕ) (actions : a ≡ actions_body s) (A : ℕ) (labels : A ≡ action_count p) (masks : List ℕ) (met : ActionMasks a A masks)
         (r : List ℕ) (rule : r ≡ rule_body s) (full : ℕ) (all : full ≡ 2 ^ count - 1)
@@ -95,8 +95,8 @@ module _ (s : List ℕ) where
         few = omega (arith, count_is);
         met = subst (λ (b : List ℕ). ActionMasks b (action_count (plan_body s)) masks) actions (subst (λ (k : ℕ). ActionMasks a k masks) (labels ∙ ap action_count plan) met);
         among = kept.bodies_kept.rule_kept.some_nodes;
-        sets = first-sets kept r rule full full_is words re;
-        ready = first-ready kept r rule full full_is words re;
+        sets = first_sets kept r rule full full_is words re;
+        ready = first_ready kept r rule full full_is words re;
       }
 
       pub answer_word_lem : (words' : List ℕ) (w : ℕ) → Evaluated s 0 words words' w → References s (Word w)

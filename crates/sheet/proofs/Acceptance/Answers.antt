@@ -22,24 +22,24 @@ use Rattle.sheet.proofs.Acceptance.Sheet.{bodies_iff, accepted_iff}
 use Rattle.sheet.proofs.Acceptance.Numbers.{refused_number, low_bodies}
 use Rattle.sheet.proofs.Roundtrip.RoundTrip.{written_length}
 
-not-passed : (x : Refusal) → Failed x ≡ Passed → ⊥
-not-passed x e = let z : ◌≡◌ {A = ℕ} 0 1 = cc in omega arith
+not_passed : (x : Refusal) → Failed x ≡ Passed → ⊥
+not_passed x e = let z : ◌≡◌ {A = ℕ} 0 1 = cc in omega arith
 
-read-answered : (s : List ℕ) (c : Check) → (c ≡ Passed) ↔ WellFormedSheet s → ReadAnswered s (answer_read (bodies_of s) c)
-read-answered s Passed iff = record {
+read_answered : (s : List ℕ) (c : Check) → (c ≡ Passed) ↔ WellFormedSheet s → ReadAnswered s (answer_read (bodies_of s) c)
+read_answered s Passed iff = record {
   exactly = (λ q. iff.0 refl, λ k. refl);
   accepted = λ q. (refl, refl);
   refused = λ q. absurd (q refl);
 }
-read-answered s (Failed x) iff = record {
-  exactly = (λ q. absurd (omega (arith, refused_number x)), λ k. absurd (not-passed x (iff.1 k)));
+read_answered s (Failed x) iff = record {
+  exactly = (λ q. absurd (omega (arith, refused_number x)), λ k. absurd (not_passed x (iff.1 k)));
   accepted = λ q. absurd (omega (arith, refused_number x));
   refused = λ q. refl;
 }
 
 read-of : (s : List ℕ) → ReadAnswered s (read_of s)
 unfolding read_of
-read-of s = read-answered s (sheet_check s) (accepted_iff s)
+read-of s = read_answered s (sheet_check s) (accepted_iff s)
 
 module _ (p a r out : List ℕ) where
   abbrev After : Check → Type 0
@@ -65,11 +65,11 @@ module _ (p a r out : List ℕ) where
         refused = λ q. (refl, refl);
       }
 
-  write-answered : (c : Check) → bodies_check p a r ≡ c → After (and_then c (require (leb (sheet_length p a r) (length out)) OutputShort))
-  write-answered Passed e = roomy (leb (sheet_length p a r) (length out)) refl ((bodies_iff p a r).0 e)
-  write-answered (Failed x) e = record {
-    exactly = (λ q. absurd (omega (arith, refused_number x)), λ q. absurd (not-passed x (sym e ∙ (bodies_iff p a r).1 q.0)));
-    short = (λ q. absurd (omega (arith, low_bodies p a r e)), λ q. absurd (not-passed x (sym e ∙ (bodies_iff p a r).1 q.0)));
+  write_answered : (c : Check) → bodies_check p a r ≡ c → After (and_then c (require (leb (sheet_length p a r) (length out)) OutputShort))
+  write_answered Passed e = roomy (leb (sheet_length p a r) (length out)) refl ((bodies_iff p a r).0 e)
+  write_answered (Failed x) e = record {
+    exactly = (λ q. absurd (omega (arith, refused_number x)), λ q. absurd (not_passed x (sym e ∙ (bodies_iff p a r).1 q.0)));
+    short = (λ q. absurd (omega (arith, low_bodies p a r e)), λ q. absurd (not_passed x (sym e ∙ (bodies_iff p a r).1 q.0)));
     accepted = λ q. absurd (omega (arith, refused_number x));
     written = λ q. absurd (omega (arith, refused_number x));
     refused = λ q. (refl, refl);
@@ -77,15 +77,15 @@ module _ (p a r out : List ℕ) where
 
   written-of : WriteAnswered p a r out (written_of p a r (length out)) (output_after p a r out)
   unfolding written_of output_after write_check
-  written-of = write-answered (bodies_check p a r) refl
+  written-of = write_answered (bodies_check p a r) refl
 
-  answered-write : (answer : Written) (out' : List ℕ) → answer ≡ written_of p a r (length out) → out' ≡ output_after p a r out → WriteAnswered p a r out answer out'
-  answered-write answer out' e f =
+  answered_write : (answer : Written) (out' : List ℕ) → answer ≡ written_of p a r (length out) → out' ≡ output_after p a r out → WriteAnswered p a r out answer out'
+  answered_write answer out' e f =
       subst (λ (w : Written). WriteAnswered p a r out w out') (sym e)
       (subst (WriteAnswered p a r out (written_of p a r (length out))) (sym f) written-of)
 
-pub answered-calls : AnsweredCalls
-answered-calls = record {
+pub answered_calls : AnsweredCalls
+answered_calls = record {
   reads = λ s answer c. subst (ReadAnswered s) (sym c.0) (read-of s);
-  writes = λ p a r out answer out' c. answered-write p a r out answer out' c.0 c.1.1;
+  writes = λ p a r out answer out' c. answered_write p a r out answer out' c.0 c.1.1;
 }

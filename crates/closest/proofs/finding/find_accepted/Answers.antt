@@ -11,7 +11,7 @@ use Rattle.sheet.specs.declared.Check.TheVariants.{Passed}
 use Rattle.sheet.proofs.Acceptance.Parts.{bodies_kept}
 use Rattle.closest.specs.Internal.Distances.{StepsMarked}
 use Rattle.closest.specs.Internal.Ordering.{Ordered}
-use Rattle.closest.proofs.Queries.Answers.{answer-required, finds-answer, finds-wrong-count, finds-refused}
+use Rattle.closest.proofs.Queries.Answers.{answer_required, finds_answer, finds_wrong_count, finds_refused}
 use Rattle.closest.proofs.finding.find_accepted.Goals as goal
 use Rattle.closest.proofs.finding.find_accepted.Goals.{After-order_states-count, Start}
 
@@ -45,20 +45,20 @@ slice_bounds-query_in_turn-end c =
 pub answer_passed-requires : goal.answer_passed-requires
 answer_passed-requires c =
     let b = (goal.at.answer_passed-requires c).After-order_states-count in
-    answer-required (sheet b) (accepted b) c.args.table.now (ordered b) (marked b) c.query_in_turn-answer.ensures c.in-Judged.is
+    answer_required (sheet b) (accepted b) c.args.table.now (ordered b) (marked b) c.query_in_turn-answer.ensures c.in-Judged.is
 
 pub returns-in-Judged : goal.returns-in-Judged
 returns-in-Judged c =
     let b = (goal.at.returns-in-Judged c).After-order_states-count in
-    finds-answer (sheet b) (accepted b) c.args.table.now (ordered b) (marked b) c.query_in_turn-answer.ensures c.in-Judged.is
+    finds_answer (sheet b) (accepted b) c.args.table.now (ordered b) (marked b) c.query_in_turn-answer.ensures c.in-Judged.is
     c.answer_passed.ensures
 
 pub returns-in-WrongCount : goal.returns-in-WrongCount
 returns-in-WrongCount c =
     let b = (goal.at.returns-in-WrongCount c).After-order_states-count in
-    finds-wrong-count (sheet b) (accepted b) c.args.table.now (ordered b) (marked b) c.query_in_turn-answer.ensures c.in-WrongCount.is
+    finds_wrong_count (sheet b) (accepted b) c.args.table.now (ordered b) (marked b) c.query_in_turn-answer.ensures c.in-WrongCount.is
 
 pub returns-in-Refused : goal.returns-in-Refused
 returns-in-Refused c =
     let b = (goal.at.returns-in-Refused c).After-order_states-count in
-    finds-refused (sheet b) (accepted b) c.args.table.now (ordered b) (marked b) c.query_in_turn-answer.ensures c.in-Refused.is
+    finds_refused (sheet b) (accepted b) c.args.table.now (ordered b) (marked b) c.query_in_turn-answer.ensures c.in-Refused.is

@@ -1,15 +1,15 @@
 -- `reference::judging::reference` meets its contract.
 use native.Mathlib.Omega.{arith}
 use mathlib.Core.Path.{sym, ◌∙◌}
-use Rattle.reference.proofs.Answers.WordAnswers.{answer-refused, answer-large, start-asked, start, answer_word_lem}
+use Rattle.reference.proofs.Answers.WordAnswers.{answer_refused, answer_large, start_asked, start, answer_word_lem}
 use Rattle.reference.proofs.judging.reference.Goals as goal
 
 pub returns-then-states-gt64 : goal.returns-then-states-gt64
 returns-then-states-gt64 c =
-    answer-large _ (sym c.check-checked.ensures.value ∙ c.in-Passed.is) _ c.plan_body-plan.ensures _ c.state_count-states.ensures (omega arith)
+    answer_large _ (sym c.check-checked.ensures.value ∙ c.in-Passed.is) _ c.plan_body-plan.ensures _ c.state_count-states.ensures (omega arith)
 
 pub restart-requires : goal.restart-requires
-restart-requires c = start-asked _ (sym c.check-checked.ensures.value ∙ c.in-Passed.is) _ c.rule_body.ensures
+restart-requires c = start_asked _ (sym c.check-checked.ensures.value ∙ c.in-Passed.is) _ c.rule_body.ensures
 
 pub evaluate-requires : goal.evaluate-requires
 evaluate-requires c =
@@ -18,7 +18,7 @@ evaluate-requires c =
     _ c.rule_body.ensures _ c.all.ensures _ c.restart.ensures
 
 pub returns-in-Failed : goal.returns-in-Failed
-returns-in-Failed c = answer-refused _ _ (sym c.check-checked.ensures.value ∙ c.in-Failed.is)
+returns-in-Failed c = answer_refused _ _ (sym c.check-checked.ensures.value ∙ c.in-Failed.is)
 
 pub returns-else-states-gt64 : goal.returns-else-states-gt64
 returns-else-states-gt64 c =
