@@ -5,7 +5,9 @@ use std::io;
 use std::io::Stdin;
 
 // Room for a blob of any length that 16 bits allow.
-pub(crate) type Buffer = [u8; 65536];
+pub(crate) const BUFFER_LENGTH: usize = 65536;
+
+pub(crate) type Buffer = [u8; BUFFER_LENGTH];
 
 // How many values 16 bits have.
 const WORD_VALUES: u32 = 65536;

@@ -20,7 +20,7 @@ mod refer;
 mod reports;
 mod write;
 
-use input::{Buffer, Byte};
+use input::{BUFFER_LENGTH, Buffer, Byte};
 use std::io::{Result, Stdin, Stdout};
 
 // Answers one request of the number given; false where the input cuts it short or the number is unknown. The buffers hold what an earlier request left:
@@ -75,10 +75,10 @@ fn next(
 fn main(rt: HostRuntime) -> Result<()> {
     let stdin = rt.stdin();
     let stdout = rt.stdout();
-    let mut first: Buffer = [0; 65536];
-    let mut second: Buffer = [0; 65536];
-    let mut third: Buffer = [0; 65536];
-    let mut fourth: Buffer = [0; 65536];
+    let mut first: Buffer = [0; BUFFER_LENGTH];
+    let mut second: Buffer = [0; BUFFER_LENGTH];
+    let mut third: Buffer = [0; BUFFER_LENGTH];
+    let mut fourth: Buffer = [0; BUFFER_LENGTH];
     let mut turns = u64::MAX;
     while turns > 0
         && next(
