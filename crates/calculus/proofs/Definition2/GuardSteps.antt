@@ -61,10 +61,10 @@ module _ (r : List ℕ) (n first : ℕ) (pre : Since r n first) (f : Fields) (is
     }
 
     -- a first child that is not guarded decides
-    pub step_failed : (p : Bool) → GuardedSince r f.x first p → p ≡ false → GuardedSince r n first false
+    pub step_failed : (p : Bool) → GuardedSince r f.x first p → p ≡ false → GuardedSince r n first p
     step_failed p s e = record {
-      is = λ a. at_pair pre.kept a n first pre.among (omega (arith, kind_is)) (omega (arith, kind_is)) false
-          (ap (λ (c : Bool). c && guarded_in (formula a r (node_y r n)) (bound_since r first)) (sym e ∙ (s.is a ∙ ap (λ (c : ℕ). guarded_in (formula a r c) (bound_since r first)) first_is)));
+      is = λ a. at_pair pre.kept a n first pre.among (omega (arith, kind_is)) (omega (arith, kind_is)) p
+          (e ∙ ap (λ (c : Bool). c && guarded_in (formula a r (node_y r n)) (bound_since r first)) (sym e ∙ (s.is a ∙ ap (λ (c : ℕ). guarded_in (formula a r c) (bound_since r first)) first_is)));
     }
 
   module _ (h : 4 ≤ f.kind) (g : f.kind < 6) where
