@@ -11,14 +11,13 @@ use Rattle.sheet.specs.Rule.{node_count, node_kind, node_x, node_y, binder_node}
 use Rattle.sheet.specs.Fields.{fields_at}
 use Rattle.sheet.specs.Reading.{sheet_check}
 use Rattle.sheet.specs.declared.Fields.{Fields}
-use Rattle.sheet.specs.declared.Check.TheVariants.{Passed, Failed}
+use Rattle.std.specs.Prelude.{Err, Ok}
 use Rattle.sheet.specs.declared.Refusal.{Refusal}
 use Rattle.sheet.proofs.Acceptance.Parts.{rule_kept}
 use Rattle.calculus.specs.Definition2.{guarded_in}
 use Rattle.calculus.specs.Decode.{formula}
 use Rattle.calculus.specs.GuardCheck.{answer_guard, guard_of}
 use Rattle.calculus.specs.Internal.GuardContracts.{bound_since, Since, GuardedSince}
-use Rattle.calculus.specs.declared.Guard.TheVariants.{Answered, Refused}
 use Rattle.sheet.proofs.Nodes.Children.{PairChildren, ModalChild, BinderChild, node_kind_lem, pair_children, modal_child, binder_child}
 use Rattle.calculus.proofs.Definition2.Since.{at_constant, at_pair, at_modal, at_variable, at_binder, since_root}
 
@@ -107,18 +106,18 @@ module _ (r : List ℕ) (n first : ℕ) (pre : Since r n first) (f : Fields) (is
 
 -- the whole sheet
 module _ (s : List ℕ) where
-  pub guard_refused : (x : Refusal) → sheet_check s ≡ Failed x → Refused x ≡ guard_of s
+  pub guard_refused : (x : Refusal) → sheet_check s ≡ Err x → Err x ≡ guard_of s
   unfolding guard_of
   guard_refused x e = ap (answer_guard s) (sym e)
 
-  module _ (e : sheet_check s ≡ Passed) (r : List ℕ) (q : r ≡ rule_body s) where
+  module _ (e : sheet_check s ≡ Ok tt) (r : List ℕ) (q : r ≡ rule_body s) where
     pub guard_start : Since r 0 0
     guard_start =
         subst (λ (x : List ℕ). Since x 0 0) (sym q)
         (record { entries = entry_count (actions_body s); kept = rule_kept s e; among = (rule_kept s e).some_nodes; since = omega arith })
 
-    pub guard_answered : (b : Bool) → GuardedSince r 0 0 b → Answered b ≡ guard_of s
+    pub guard_answered : (b : Bool) → GuardedSince r 0 0 b → Ok b ≡ guard_of s
     unfolding guard_of
     guard_answered b g =
-        ap Answered (subst (λ (x : List ℕ). b ≡ guarded_in (formula (actions_body s) x 0) (bound_since x 0)) q (g.is (actions_body s)) ∙ since_root (rule_kept s e) (actions_body s)) ∙
+        ap Ok (subst (λ (x : List ℕ). b ≡ guarded_in (formula (actions_body s) x 0) (bound_since x 0)) q (g.is (actions_body s)) ∙ since_root (rule_kept s e) (actions_body s)) ∙
         ap (answer_guard s) (sym e)
