@@ -12,8 +12,8 @@ use Rattle.judge.specs.Clearing.{Clears}
 use Rattle.judge.specs.Querying.{QueryReport, reported_query, Queries}
 use Rattle.judge.specs.Lists.{Calls}
 use Rattle.judge.specs.Demand3.{ListCorrect}
-use Rattle.judge.specs.declared.Cleared.{Cleared}
-use Rattle.judge.specs.declared.Queried.{Queried}
+use Rattle.judge.specs.Clearing.{Cleared}
+use Rattle.judge.specs.Querying.{Queried}
 
 -- ---- the sheets
 
