@@ -73,18 +73,9 @@ pub fn put_refusal(number: u8, place: u16, at: usize, out: &mut [u8]) -> usize
 }
 
 // Whether two texts are the same, byte for byte.
+#[tactic(auto, using(crate::proofs::Comparing::pointwise_same))]
 pub fn same(text: &[u8], other: &[u8]) -> bool
     ensures { result ≡ same_text text.now other.now }
 {
-    if text.len() != other.len() {
-        return false;
-    }
-    let mut at: usize = 0;
-    while at < text.len() {
-        if text[at] != other[at] {
-            return false;
-        }
-        at += 1;
-    }
-    true
+    text == other
 }
