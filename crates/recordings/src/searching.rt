@@ -5,10 +5,8 @@ ghost use Rattle.sheet.specs.Reading.{sheet_check};
 ghost use Rattle.sheet.specs.declared.Check.TheVariants.{Passed};
 ghost use Rattle.recordings.specs.Runs.{WellFormedRun};
 ghost use Rattle.recordings.specs.Shortest.{actions_below, answer_found, answer_accepted, shortest_of, part_for, taken_from, HandsBack};
-ghost use Rattle.recordings.specs.Internal.Chains.{Judgeable};
 
-use crate::chains::{CHAIN_ROOM, MOST_ACTIONS, put_chain};
-use crate::judging::fails_at;
+use crate::chains::{CHAIN_ROOM, MOST_ACTIONS, Recording, put_chain};
 use crate::{Answer, Shortest};
 use sheet::Check;
 use sheet::plan::action_count;
@@ -18,31 +16,21 @@ use sheet::reader::{check, plan_body};
 fn all_below(run: &[u8], actions: u8) -> bool
     ensures { result ≡ actions_below actions run.now }
 {
-    let mut i: usize = 0;
-    while i < run.len() {
-        if actions <= run[i] {
-            return false;
-        }
-        i += 1;
-    }
-    true
+    run.iter().all(|&action| action < actions)
 }
 
-// The answer for two recordings whose transitions are at hand.
-fn search(sheet: &[u8], first: &[u8], chain1: &[u8], second: &[u8], chain2: &[u8]) -> Answer
-    requires judgeable { Judgeable sheet.now first.now chain1.now }
-    requires judgeable_2 { Judgeable sheet.now second.now chain2.now }
-    ensures { result ≡ answer_found sheet.now first.now second.now }
+// The answer for two recordings of one sheet.
+fn search(first: Recording<'_>, second: Recording<'_>) -> Answer
+    requires { second.sheet.now ≡ first.sheet.now }
+    ensures { result ≡ answer_found first.entry.sheet.now first.entry.run.now second.entry.run.now }
 {
-    let mut n: usize = 0;
-    while n <= MOST_ACTIONS {
-        if fails_at(sheet, first, chain1, n) {
+    for n in 0..=MOST_ACTIONS {
+        if first.fails_at(n) {
             return Answer::FirstFails(n);
         }
-        if fails_at(sheet, second, chain2, n) {
+        if second.fails_at(n) {
             return Answer::SecondFails(n);
         }
-        n += 1;
     }
     Answer::NoneFails
 }
@@ -57,7 +45,18 @@ fn search_recorded(sheet: &[u8], first: &[u8], second: &[u8]) -> Answer
     let mut second_room = [0u8; CHAIN_ROOM];
     let n = put_chain(first, &mut first_room);
     let m = put_chain(second, &mut second_room);
-    search(sheet, first, &first_room[..n], second, &second_room[..m])
+    search(
+        Recording {
+            sheet,
+            run: first,
+            chain: &first_room[..n],
+        },
+        Recording {
+            sheet,
+            run: second,
+            chain: &second_room[..m],
+        },
+    )
 }
 
 // The answer for an accepted sheet.
@@ -65,17 +64,11 @@ fn search_accepted(sheet: &[u8], first: &[u8], second: &[u8]) -> Answer
     requires { sheet_check sheet.now ≡ Passed }
     ensures { result ≡ answer_accepted sheet.now first.now second.now }
 {
-    if MOST_ACTIONS < first.len() {
-        return Answer::RunTooLong;
-    }
-    if MOST_ACTIONS < second.len() {
+    if MOST_ACTIONS < first.len() || MOST_ACTIONS < second.len() {
         return Answer::RunTooLong;
     }
     let actions = action_count(plan_body(sheet));
-    if !all_below(first, actions) {
-        return Answer::NoSuchAction;
-    }
-    if !all_below(second, actions) {
+    if !all_below(first, actions) || !all_below(second, actions) {
         return Answer::NoSuchAction;
     }
     search_recorded(sheet, first, second)
@@ -96,10 +89,7 @@ fn find(sheet: &[u8], first: &[u8], second: &[u8]) -> Answer
 fn front(run: &[u8], n: usize) -> &[u8]
     ensures { (result.now ≡ take n run.now) × (result.ref_ptr ≡ run.entry.ref_ptr) }
 {
-    if run.len() < n {
-        return run;
-    }
-    &run[..n]
+    &run[..n.min(run.len())]
 }
 
 // The part that goes with an answer.
