@@ -1,6 +1,6 @@
 -- What the steps of the search show.
 use Prim.Native.Nat.{ℕ, suc, ◌+◌, ◌<◌, ◌≤◌}
-use mathlib.Core.Path.{◌≡◌, refl, sym, ap, ◌∙◌}
+use mathlib.Core.Path.{◌≡◌, refl, sym}
 use mathlib.Core.Bool.{Bool, true, false}
 use mathlib.Core.List.{List}
 use native.Mathlib.Omega.{arith}
@@ -13,13 +13,11 @@ use Rattle.sheet.specs.Contents.{plan_body}
 use Rattle.sheet.specs.Plan.{action_count}
 use Rattle.sheet.proofs.Checks.Checks.{none_found}
 use Rattle.sheet.proofs.Checks.Seeking.{Seeking, seek_start, seek_here, seek_next, seek_end}
-use Rattle.sheet.specs.Reading.{sheet_check}
-use Rattle.std.specs.Prelude.{Err, Ok}
-use Rattle.sheet.specs.declared.Refusal.{Refusal}
-use Rattle.recordings.specs.Shortest.{fails_at, over_at, actions_below, either_fails, fewest, answer_found, answer_accepted, shortest_of}
+use Rattle.std.specs.Prelude.{Ok}
+use Rattle.recordings.specs.Shortest.{fails_at, over_at, actions_below, either_fails, fewest, answer_found}
 use Rattle.recordings.specs.Runs.{most_actions, WellFormedRun}
-use Rattle.recordings.specs.declared.Answer.{Answer}
-use Rattle.recordings.specs.declared.Answer.TheVariants.{FirstFails, SecondFails, NoneFails, RunTooLong, NoSuchAction, Refused}
+use Rattle.recordings.specs.declared.Failing.TheVariants.{First, Second}
+use Rattle.std.specs.Prelude.{Some, None}
 use Rattle.recordings.proofs.Plans.Runs.{all_below_lem}
 
 -- all actions of the run are below A, or one is not
@@ -42,12 +40,12 @@ module _ (s first second : List ℕ) where
   search_start = seek_start (either_fails s first second) (suc most_actions) (suc most_actions) refl
 
   module _ (n : ℕ) (t : Searched n) where
-    pub first_fails : n ≤ most_actions → fails_at s first n ≡ true → FirstFails n ≡ answer_found s first second
+    pub first_fails : n ≤ most_actions → fails_at s first n ≡ true → Ok (Some (First n)) ≡ answer_found s first second
     first_fails h e =
         let is : n ≡ fewest s first second = seek_here t (omega arith) (rw e refl) in
         rw (sym is, le-leb n most_actions h, e) refl
 
-    pub second_fails : n ≤ most_actions → fails_at s first n ≡ false → fails_at s second n ≡ true → SecondFails n ≡ answer_found s first second
+    pub second_fails : n ≤ most_actions → fails_at s first n ≡ false → fails_at s second n ≡ true → Ok (Some (Second n)) ≡ answer_found s first second
     second_fails h d e =
         let is : n ≡ fewest s first second = seek_here t (omega arith) (rw (d, e) refl) in
         rw (sym is, le-leb n most_actions h, d) refl
@@ -55,25 +53,11 @@ module _ (s first second : List ℕ) where
     pub both_hold : n ≤ most_actions → fails_at s first n ≡ false → fails_at s second n ≡ false → Searched (n + 1)
     both_hold h d e = seek_next t (omega arith) (rw (d, e) refl)
 
-    pub none_fails : most_actions < n → NoneFails ≡ answer_found s first second
+    pub none_fails : most_actions < n → Ok None ≡ answer_found s first second
     none_fails h =
         let is : n ≡ fewest s first second = seek_end t (omega arith) in
         rw (sym is, lt-leb n most_actions h) refl
 
--- an accepted sheet, and two runs that are neither too long nor with an action over
-pub both_kept : (s first second : List ℕ) → length first ≤ most_actions → length second ≤ most_actions → {actions : ℕ} → actions ≡ action_count (plan_body s)
-    → actions_below actions first ≡ true → actions_below actions second ≡ true → WellFormedRun s first × WellFormedRun s second
-both_kept s first second g h is d e = (
-  record { short = g; below = all_below_lem (action_count (plan_body s)) first (ap (λ (A : ℕ). actions_below A first) (sym is) ∙ d) },
-  record { short = h; below = all_below_lem (action_count (plan_body s)) second (ap (λ (A : ℕ). actions_below A second) (sym is) ∙ e) },
-)
-
--- any bytes
-module _ (s first second : List ℕ) where
-  pub unread : (x : Refusal) → sheet_check s ≡ Err x → Refused x ≡ shortest_of s first second
-  unfolding shortest_of
-  unread x e = rw e refl
-
-  pub read : sheet_check s ≡ Ok tt → {r : Answer} → r ≡ answer_accepted s first second → r ≡ shortest_of s first second
-  unfolding shortest_of
-  read e f = f ∙ rw e refl
+-- a run that is neither too long nor has an action over
+pub run_kept : (s run : List ℕ) → length run ≤ most_actions → actions_below (action_count (plan_body s)) run ≡ true → WellFormedRun s run
+run_kept s run h d = record { short = h; below = all_below_lem (action_count (plan_body s)) run d }
