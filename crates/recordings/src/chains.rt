@@ -9,6 +9,7 @@ use sheet::HEAD_LENGTH;
 use sheet::plan::action_count;
 use sheet::reader::{actions_body, plan_body, rule_body};
 use sheet::writer::head_of;
+use text::Writer;
 
 // The most actions of a run.
 pub(crate) const MOST_ACTIONS: usize = 127;
@@ -24,12 +25,11 @@ pub(crate) fn put_chain(run: &[u8], room: &mut [u8]) -> usize
     requires { (length run.now ≤ most_actions) × (chain_room ≤ length room.old) }
     ensures { Puts (chain_bytes 0 run.now) result room.old room.new }
 {
-    let mut at = 0;
+    let mut writer = Writer::new(room);
     for (i, &action) in run.iter().enumerate() {
-        let step = [i as u8, action, (i + 1) as u8];
-        at = text::put(&step, at, room);
+        writer.put(&[i as u8, action, (i + 1) as u8]);
     }
-    at
+    writer.place
 }
 
 // S, A and T of a chain of n actions.
@@ -76,10 +76,12 @@ impl<'a> Recording<'a> {
             rule.len() as u16,
         );
         let start = chain_head(action_count(plan_body(self.sheet)), self.run.len());
-        let after_head = text::put(&head, 0, room);
-        let after_start = text::put(&start, after_head, room);
-        let after_chain = text::put(self.chain, after_start, room);
-        let after_actions = text::put(actions, after_chain, room);
-        text::put(rule, after_actions, room)
+        let mut writer = Writer::new(room);
+        writer.put(&head);
+        writer.put(&start);
+        writer.put(self.chain);
+        writer.put(actions);
+        writer.put(rule);
+        writer.place
     }
 }

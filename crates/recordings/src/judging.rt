@@ -20,8 +20,7 @@ const MIDDLE_TABLE: usize = 8192;
 fn false_on(sheet: &[u8], table: &mut [u8]) -> bool
     ensures { result ≡ false_on sheet.now table.old }
 {
-    let answer = query(sheet, State(0), table);
-    !answer.verdict()
+    !query(sheet, State(0), table).is_ok_and(|judged| judged.verdict)
 }
 
 // The same on a table of N zeros.
