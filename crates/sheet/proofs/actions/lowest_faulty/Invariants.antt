@@ -6,6 +6,3 @@ use Rattle.sheet.proofs.actions.lowest_faulty.Given as goal
 
 abbrev pub invariant-loop-e : goal.invariant-loop-e
 invariant-loop-e l = Seeking (entry_faulty l.actions l.a) l.count (lowest_entry l.actions l.a) l.e
-
-abbrev pub decreases-loop-e : goal.decreases-loop-e
-decreases-loop-e l = l.count - l.e

@@ -8,6 +8,3 @@ use Rattle.sheet.proofs.plan.lowest_faulty.Given as goal
 
 abbrev pub invariant-loop-i : goal.invariant-loop-i
 invariant-loop-i l = (l.floor ≡ floor_at l.p l.i) × Seeking (transition_faulty l.p) l.count (lowest_transition l.p) l.i
-
-abbrev pub decreases-loop-i : goal.decreases-loop-i
-decreases-loop-i l = l.count - l.i

@@ -5,6 +5,3 @@ use Rattle.sheet.proofs.plan.none_faulty.Given as goal
 
 abbrev pub invariant-loop-i : goal.invariant-loop-i
 invariant-loop-i l = (2 * l.i ≤ l.count) × Climbing l.p l.floor (2 * l.i)
-
-abbrev pub decreases-loop-i : goal.decreases-loop-i
-decreases-loop-i l = l.count - l.i

@@ -7,6 +7,3 @@ use Rattle.sheet.proofs.rule.binder_place.Given as goal
 
 abbrev pub invariant-loop-n : goal.invariant-loop-n
 invariant-loop-n l = BindersCounted l.r l.n l.binders × Seeking (binds_at l.r l.k) l.count (binder_node l.r l.k) l.n
-
-abbrev pub decreases-loop-n : goal.decreases-loop-n
-decreases-loop-n l = l.count - l.n

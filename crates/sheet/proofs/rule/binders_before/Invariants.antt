@@ -5,6 +5,3 @@ use Rattle.sheet.proofs.rule.binders_before.Given as goal
 
 abbrev pub invariant-loop-at : goal.invariant-loop-at
 invariant-loop-at l = (l.at ≤ l.n) × BindersCounted l.r l.at l.binders
-
-abbrev pub decreases-loop-at : goal.decreases-loop-at
-decreases-loop-at l = l.n - l.at

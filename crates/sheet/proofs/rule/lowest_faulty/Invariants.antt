@@ -7,6 +7,3 @@ use Rattle.sheet.proofs.rule.lowest_faulty.Given as goal
 
 abbrev pub invariant-loop-n : goal.invariant-loop-n
 invariant-loop-n l = BindersCounted l.r l.n l.binders × Seeking (binding_faulty l.r) l.count (lowest_binding l.r) l.n
-
-abbrev pub decreases-loop-n : goal.decreases-loop-n
-decreases-loop-n l = l.count - l.n
