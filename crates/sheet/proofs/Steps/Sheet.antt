@@ -8,12 +8,9 @@ use lib.Dec.{eqb}
 use borrow.Author.Tests.{lt-leb, eqb-true}
 use Rattle.sheet.specs.Bytes.{byte, word}
 use Rattle.sheet.specs.Contents.{head_length, entry_is}
-use Rattle.sheet.specs.Plan.{action_count}
-use Rattle.sheet.specs.Actions.{entry_count}
-use Rattle.sheet.specs.Reading.{plan_check, actions_check, rule_check, bodies_check, sheet_check, read_of, bodies_of}
-use Rattle.sheet.specs.declared.Refusal.{Refusal}
+use Rattle.sheet.specs.Reading.{sheet_check}
 use Rattle.sheet.specs.declared.Refusal.TheVariants.{TooShort}
-use Rattle.std.specs.Prelude.{Err, Ok}
+use Rattle.std.specs.Prelude.{Err}
 use Rattle.sheet.proofs.Checks.Checks.{and_parts}
 
 module _ (s : List ℕ) where
@@ -26,5 +23,3 @@ module _ (s : List ℕ) where
   pub sheet_short : length s < head_length → Err TooShort ≡ sheet_check s
   unfolding sheet_check
   sheet_short h = rw (lt-leb head_length (length s) h)
-
-module _ (p a r : List ℕ) where

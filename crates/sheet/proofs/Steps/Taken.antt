@@ -1,24 +1,18 @@
 -- What the tests of the reader's code say of what was taken from a sheet, and that a sheet taken front to back is checked as a whole.
 use Prim.Native.Nat.{ℕ, ◌+◌, ◌≤◌}
-use mathlib.Core.Path.{◌≡◌, refl, sym, ap, ◌∙◌}
-use mathlib.Core.Bool.{Bool, true, false}
+use mathlib.Core.Path.{◌≡◌, refl, ap, ◌∙◌}
 use mathlib.Core.List.{List}
 use native.Mathlib.Omega.{arith}
 use lib.ListN.{length, take, drop, length-drop}
 use lib.Seq.{drop-drop}
-use lib.Dec.{eqb, leb}
-use borrow.Author.Tests.{eq-eqb, ne_eqb, le-leb}
-use Rattle.sheet.specs.Bytes.{byte, slice}
-use Rattle.sheet.specs.Contents.{heading_right, head_length, longest, entry_is, plan_length, actions_length, rule_length, actions_offset, rule_offset, contents_right, plan_body, actions_body, rule_body}
+use borrow.Author.Tests.{le-leb}
+use Rattle.sheet.specs.Bytes.{slice}
+use Rattle.sheet.specs.Contents.{heading_right, head_length, entry_is, plan_length, actions_length, rule_length, actions_offset, rule_offset, contents_right, plan_body, actions_body, rule_body}
 use Rattle.sheet.specs.Refusals.{require, and_then}
 use Rattle.sheet.specs.Reading.{bodies_check, sheet_check}
 use Rattle.sheet.specs.Internal.Entry.{heading_at, entry_fits, entries_fit, check_taken, check_in_order}
-use Rattle.sheet.specs.declared.contents.Entry.{Entry}
 use Rattle.sheet.specs.declared.Refusal.TheVariants.{Heading, Contents}
-use Rattle.std.specs.Prelude.{Err}
 
-module _ (plan actions rule : Entry) (end : ℕ) where
-  -- second and third are the offsets that the code has worked out
 module _ (s : List ℕ) where
   -- a part of what follows the first 17 bytes
   from_head : (offset to size : ℕ) → head_length + offset ≡ to → slice (drop head_length s) offset size ≡ slice s to size

@@ -1,5 +1,4 @@
 -- `sheet::actions::lowest_faulty` meets its contract. Of the loop: no entry below e is faulty.
-use Prim.Native.Nat.{◌-◌}
 use Rattle.sheet.proofs.Checks.Seeking.{Seeking}
 use Rattle.sheet.specs.Actions.{entry_faulty, lowest_entry}
 use Rattle.sheet.proofs.actions.lowest_faulty.Given as goal

@@ -1,6 +1,5 @@
 -- `sheet::plan::lowest_faulty` meets its contract. Of the loop: no transition below i is faulty, and the floor is that of transition i.
 use mathlib.Core.Path.{◌≡◌}
-use Prim.Native.Nat.{◌-◌}
 use Rattle.sheet.specs.Plan.{transition_faulty, lowest_transition}
 use Rattle.sheet.specs.Internal.Order.{floor_at}
 use Rattle.sheet.proofs.Checks.Seeking.{Seeking}

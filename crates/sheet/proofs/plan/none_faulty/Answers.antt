@@ -51,7 +51,7 @@ returns c e =
     let low : c.if-count-eq1.floor ≤ c.key_of.result = leb-true _ _ e in
     elim c.if-count-eq1.branch [
       | then-count-eq1+in-Some-rise-2 w ↦
-        let last : 2 * c.loop-i.i ≡ c.word_at-count.result - 1 = omega arith in
-        climb_end (climb_next c.loop-i.invariant.1 _ (omega arith) (sym w.in-Some-rise-2.is ∙ (w.rise-then-count-eq1.ensures ∙ rw last refl))) (omega arith) (omega (arith, w.floor-is))
+          let last : 2 * c.loop-i.i ≡ c.word_at-count.result - 1 = omega arith in
+          climb_end (climb_next c.loop-i.invariant.1 _ (omega arith) (sym w.in-Some-rise-2.is ∙ (w.rise-then-count-eq1.ensures ∙ rw last refl))) (omega arith) (omega (arith, w.floor-is))
       | else-count-eq1 w ↦ climb_end c.loop-i.invariant.1 (omega arith) (omega (arith, w.floor-is))
     ]

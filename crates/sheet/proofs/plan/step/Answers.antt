@@ -1,7 +1,6 @@
 -- `sheet::plan::step` meets its contract.
 use native.Mathlib.Omega.{arith}
 use mathlib.Core.Path.{sym, ◌∙◌}
-use Rattle.sheet.specs.Internal.Order.{faulty_elsewhere}
 use Rattle.sheet.proofs.Steps.Order.{step_none_lem, step_within_lem, step_beyond}
 use Rattle.sheet.proofs.plan.step.Goals as goal
 

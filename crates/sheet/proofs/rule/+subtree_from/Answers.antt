@@ -2,7 +2,7 @@
 use native.Mathlib.Omega.{arith}
 use mathlib.Core.Path.{sym, ◌∙◌}
 use Rattle.std.proofs.lemmas.Result.{err_from_is_err_and}
-use Rattle.sheet.proofs.Steps.Subtrees.{child_node, modal_node, later, ended_leaf, ended_leaf_fault, ended_variable, ended_variable_fault, ended_unknown}
+use Rattle.sheet.proofs.Steps.Subtrees.{ended_leaf, ended_leaf_fault, ended_variable, ended_variable_fault, ended_unknown}
 use Rattle.sheet.proofs.Steps.Subtrees.{ended_modal, ended_modal_fault, ended_binder, ended_binder_fault}
 use Rattle.sheet.proofs.Steps.Subtrees.{ended_pair, ended_pair_fault, ended_first_fault, ended_second_fault}
 use Rattle.sheet.proofs.rule.+subtree_from.Goals as goal

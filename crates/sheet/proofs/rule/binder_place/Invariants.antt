@@ -1,5 +1,4 @@
 -- `sheet::rule::binder_place` meets its contract. Of the loop: no node below n is binder k.
-use Prim.Native.Nat.{◌-◌}
 use Rattle.sheet.specs.Rule.{binder_node, binds_at}
 use Rattle.sheet.specs.Internal.Counting.{BindersCounted}
 use Rattle.sheet.proofs.Checks.Seeking.{Seeking}

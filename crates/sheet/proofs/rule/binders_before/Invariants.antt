@@ -1,5 +1,5 @@
 -- `sheet::rule::binders_before` meets its contract.
-use Prim.Native.Nat.{◌-◌, ◌≤◌}
+use Prim.Native.Nat.{◌≤◌}
 use Rattle.sheet.specs.Internal.Counting.{BindersCounted}
 use Rattle.sheet.proofs.rule.binders_before.Given as goal
 

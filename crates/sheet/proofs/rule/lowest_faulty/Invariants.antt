@@ -1,5 +1,4 @@
 -- `sheet::rule::lowest_faulty` meets its contract. Of the loop: no node below n breaks the rules of binding.
-use Prim.Native.Nat.{◌-◌}
 use Rattle.sheet.specs.Rule.{binding_faulty, lowest_binding}
 use Rattle.sheet.specs.Internal.Counting.{BindersCounted}
 use Rattle.sheet.proofs.Checks.Seeking.{Seeking}

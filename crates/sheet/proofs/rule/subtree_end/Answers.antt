@@ -1,8 +1,7 @@
-use mathlib.Core.Path.{◌≡◌, refl, sym, ap, ◌∙◌}
-use Prim.Native.Nat.{ℕ, ◌+◌, ◌-◌}
+use mathlib.Core.Path.{◌≡◌, refl, ap, ◌∙◌}
+use Prim.Native.Nat.{◌+◌, ◌-◌}
 use native.Mathlib.Omega.{arith}
 use Rattle.sheet.specs.Kinds.{child_count}
-use Rattle.sheet.specs.Rule.{end_within, subtree_end}
 use Rattle.sheet.proofs.Steps.Nodes.{end_none, end_childless, end_only, end_second}
 use Rattle.sheet.proofs.rule.subtree_end.Goals as goal
 use Rattle.sheet.proofs.rule.subtree_end.Goals.{in-1, in_default}
