@@ -11,6 +11,7 @@ mod lexer;
 pub mod parsing;
 mod pass;
 
+use sheet::{Numbered, Refusal};
 // The most entries that an action table may have, and the bytes of the longest body.
 const MOST_ENTRIES: usize = 32;
 
@@ -37,4 +38,27 @@ pub enum ParseError {
     UnknownAction,
     TooManyEntries,
     OutputShort,
+}
+
+// Its number is 32, 33, 34 or that of the sheet's refusal; it names no place.
+impl Numbered for ParseError {
+    ghost use Rattle.std.specs.Prelude.{Err};
+    ghost use Rattle.action_line.specs.Parsing.{reported_parse};
+
+    ghost number = { λ e. (reported_parse (Err e)).number };
+
+    ghost place = { λ e. (reported_parse (Err e)).place };
+
+    fn number(&self) -> u8 {
+        match self {
+            ParseError::Unreadable => 32,
+            ParseError::UnknownAction => 33,
+            ParseError::TooManyEntries => 34,
+            ParseError::OutputShort => Refusal::OutputShort.number(),
+        }
+    }
+
+    fn place(&self) -> u16 {
+        0
+    }
 }
