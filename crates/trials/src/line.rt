@@ -3,20 +3,20 @@ ghost use Rattle.std.specs.Prelude.{◌≤◌, length};
 
 use crate::input::{Buffer, Byte, Number};
 use crate::{input, output};
-use action_line::Parsed;
+use sheet::Numbered;
 use std::io::{Result, Stdin, Stdout};
 
-fn write_length(stdout: Stdout, p: Parsed) -> Result<()> {
+fn write_length(stdout: Stdout, number: u8, place: u16, length: usize) -> Result<()> {
     output::text(stdout, b"line")?;
-    output::number(stdout, p.number() as u64)?;
-    output::number(stdout, p.place() as u64)?;
-    output::number(stdout, p.length() as u64)?;
+    output::number(stdout, u64::from(number))?;
+    output::number(stdout, u64::from(place))?;
+    output::number(stdout, length as u64)?;
     output::end_line(stdout)
 }
 
 fn parse(stdout: Stdout, actions: u8, line: &[u8], out: &mut [u8]) -> Result<()> {
     let p = action_line::parsing::parse(actions, line, out);
-    write_length(stdout, p)?;
+    write_length(stdout, p.number(), p.place(), p.unwrap_or(0))?;
     output::text(stdout, b"out")?;
     output::hex(stdout, out)?;
     output::end_line(stdout)
