@@ -62,16 +62,11 @@ fn put_sheet(p: &[u8], a: &[u8], r: &[u8], out: &mut [u8])
 pub fn write(plan: &[u8], actions: &[u8], rule: &[u8], out: &mut [u8]) -> Result<usize, Refusal>
     ensures { Writes plan.now actions.now rule.now out.old result out.new }
 {
-    let checked = check_bodies(plan, actions, rule);
-    match checked {
-        Err(x) => Err(x),
-        Ok(()) => {
-            let length = HEAD_LENGTH + plan.len() + actions.len() + rule.len();
-            if out.len() < length {
-                return Err(Refusal::OutputShort);
-            }
-            put_sheet(plan, actions, rule, out);
-            Ok(length)
-        }
+    check_bodies(plan, actions, rule)?;
+    let length = HEAD_LENGTH + plan.len() + actions.len() + rule.len();
+    if out.len() < length {
+        return Err(Refusal::OutputShort);
     }
+    put_sheet(plan, actions, rule, out);
+    Ok(length)
 }

@@ -1,5 +1,6 @@
 // Request 9: a line becomes the body of an action table.
 use crate::connection::{Connection, Stop};
+use sheet::Numbered;
 
 pub(crate) fn answer(connection: &mut Connection) -> Result<(), Stop> {
     let actions = connection.read_u8()?;
@@ -11,7 +12,7 @@ pub(crate) fn answer(connection: &mut Connection) -> Result<(), Stop> {
         "line {} {} {}",
         length.number(),
         length.place(),
-        length.length()
+        length.unwrap_or(0)
     )?;
     connection.write_bytes("out", &out)
 }
