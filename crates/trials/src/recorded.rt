@@ -1,15 +1,7 @@
 // Request 14: the shortest beginning, of either of two recordings, on which the rule fails.
 use crate::connection::{Connection, Stop};
-use recordings::Answer;
-
-// Which recording the beginning is of.
-fn which(answer: Answer) -> &'static str {
-    match answer {
-        Answer::FirstFails(_) => "first",
-        Answer::SecondFails(_) => "second",
-        Answer::NoneFails | Answer::RunTooLong | Answer::NoSuchAction | Answer::Refused(_) => "none",
-    }
-}
+use recordings::Failing;
+use sheet::Numbered;
 
 pub(crate) fn answer(connection: &mut Connection) -> Result<(), Stop> {
     let sheet = connection.read_blob()?;
@@ -18,5 +10,10 @@ pub(crate) fn answer(connection: &mut Connection) -> Result<(), Stop> {
     let found = recordings::searching::shortest_failing(&sheet, &first, &second);
     let answer = found.answer;
     print!(connection.output; "shortest {} {} ", answer.number(), answer.place())?;
-    connection.write_bytes(which(answer), found.part)
+    let which = match answer {
+        Ok(Some(Failing::First(_))) => "first",
+        Ok(Some(Failing::Second(_))) => "second",
+        Ok(None) | Err(_) => "none",
+    };
+    connection.write_bytes(which, found.part)
 }
