@@ -18,7 +18,7 @@ mod writing;
 ghost use Rattle.std.specs.Prelude.{◌≡◌};
 ghost use Rattle.aut.specs.Converting.{number_of_error, place_of_error};
 
-use sheet::Refusal;
+use sheet::{Numbered, Refusal};
 
 // Why the converter turns its input down.
 #[derive(Clone, Copy, Debug, PartialEq, Eq)]

@@ -1,8 +1,8 @@
 // The sheet: a plan and a rule in one file. Reader, writer and the functions that read a sheet's fields.
 #![tactic(auto)]
 
-ghost use Rattle.std.specs.Prelude.{◌≡◌};
-ghost use Rattle.sheet.specs.Refusals.{number_of, place_of};
+ghost use Rattle.std.specs.Prelude.{◌≡◌, ℕ};
+ghost use Rattle.sheet.specs.Refusals.{number_of, place_of, answer_number};
 
 pub mod actions;
 mod body_check;
@@ -20,20 +20,20 @@ pub const HEAD_LENGTH: usize = 17;
 pub const LONGEST: usize = 6455;
 
 // Numbers of states, nodes, actions and variables: one never stands for another.
-#[derive(Clone, Copy)]
+#[derive(Clone, Copy, Debug, PartialEq, Eq, PartialOrd, Ord)]
 pub struct State(pub u8);
 
-#[derive(Clone, Copy)]
+#[derive(Clone, Copy, Debug, PartialEq, Eq, PartialOrd, Ord)]
 pub struct Node(pub u8);
 
-#[derive(Clone, Copy)]
+#[derive(Clone, Copy, Debug, PartialEq, Eq, PartialOrd, Ord)]
 pub struct Action(pub u8);
 
-#[derive(Clone, Copy)]
+#[derive(Clone, Copy, Debug, PartialEq, Eq, PartialOrd, Ord)]
 pub struct Variable(pub u8);
 
-// A transition of the plan.
-#[derive(Clone, Copy)]
+// A transition of the plan. The order is that of the plan: by origin, then action, then target.
+#[derive(Clone, Copy, Debug, PartialEq, Eq, PartialOrd, Ord)]
 pub struct Transition {
     pub from: State,
     pub action: Action,
@@ -41,7 +41,7 @@ pub struct Transition {
 }
 
 // The three bytes of an action entry or of a node.
-#[derive(Clone, Copy)]
+#[derive(Clone, Copy, Debug, PartialEq, Eq)]
 pub struct Fields {
     pub kind: u8,
     pub x: u8,
@@ -49,7 +49,7 @@ pub struct Fields {
 }
 
 // Why a call turns its input down; a case that has a place holds it.
-#[derive(Clone, Copy)]
+#[derive(Clone, Copy, Debug, PartialEq, Eq)]
 pub enum Refusal {
     TooShort,
     Heading,
@@ -69,11 +69,26 @@ pub enum Refusal {
     OutputShort,
 }
 
-impl Refusal {
-    // The number of the refusal.
-    pub fn number(self) -> u8
-        ensures { result ≡ number_of self }
-    {
+// What became of the input of a call, as two numbers: 0 and 0 where it was accepted; else the number of the refusal, and the faulty transition, entry or
+// node, 0 where none is named.
+pub trait Numbered {
+    ghost number: { Self → ℕ };
+
+    ghost place: { Self → ℕ };
+
+    fn number(&self) -> u8
+        ensures { result ≡ number self.now };
+
+    fn place(&self) -> u16
+        ensures { result ≡ place self.now };
+}
+
+impl Numbered for Refusal {
+    ghost number = { number_of };
+
+    ghost place = { place_of };
+
+    fn number(&self) -> u8 {
         match self {
             Refusal::TooShort => 1,
             Refusal::Heading => 2,
@@ -94,70 +109,48 @@ impl Refusal {
         }
     }
 
-    // The faulty transition, entry or node, or 0.
-    pub fn place(self) -> u16
-        ensures { result ≡ place_of self }
-    {
+    fn place(&self) -> u16 {
         match self {
-            Refusal::TransitionFault(t) => t,
-            Refusal::EntryFault(e) => e as u16,
-            Refusal::SyntaxFault(n) => n.0 as u16,
-            Refusal::BindingFault(n) => n.0 as u16,
-            Refusal::TooShort => 0,
-            Refusal::Heading => 0,
-            Refusal::Contents => 0,
-            Refusal::PlanSize => 0,
-            Refusal::ActionsSize => 0,
-            Refusal::RuleSize => 0,
-            Refusal::NoSuchState => 0,
-            Refusal::Loop => 0,
-            Refusal::TooManyStates => 0,
-            Refusal::TableShort => 0,
-            Refusal::TableByte => 0,
-            Refusal::OutputShort => 0,
+            Refusal::TransitionFault(t) => *t,
+            Refusal::EntryFault(e) => u16::from(*e),
+            Refusal::SyntaxFault(n) | Refusal::BindingFault(n) => u16::from(n.0),
+            _ => 0,
         }
     }
 }
 
-// What checking the input, or a body of it, gives.
-#[derive(Clone, Copy)]
-pub enum Check {
-    Passed,
-    Failed(Refusal),
-}
+// An accepted input has number 0 and place 0, a refused one those of the error.
+impl<T, E: Numbered> Numbered for Result<T, E> {
+    ghost number = { answer_number E.number };
 
-// The subtree of a node, in preorder: the place after it, which may be no node and so is a plain number, or the first faulty node met in it.
-#[derive(Clone, Copy)]
-pub(crate) enum Extent {
-    Ends(usize),
-    Faulty(Node),
+    ghost place = { answer_number E.place };
+
+    fn number(&self) -> u8 {
+        match self {
+            Ok(_) => 0,
+            Err(e) => e.number(),
+        }
+    }
+
+    fn place(&self) -> u16 {
+        match self {
+            Ok(_) => 0,
+            Err(e) => e.place(),
+        }
+    }
 }
 
 // Where a body lies in its sheet.
-#[derive(Clone, Copy)]
+#[derive(Clone, Copy, Debug, PartialEq, Eq)]
 pub struct Span {
     pub offset: usize,
     pub length: usize,
 }
 
 // Where the three bodies lie.
-#[derive(Clone, Copy)]
+#[derive(Clone, Copy, Debug, PartialEq, Eq)]
 pub struct Bodies {
     pub plan: Span,
     pub actions: Span,
     pub rule: Span,
-}
-
-// What the reader answers.
-#[derive(Clone, Copy)]
-pub enum Read {
-    Accepted(Bodies),
-    Refused(Refusal),
-}
-
-// What the writer answers: the length of the sheet that it wrote.
-#[derive(Clone, Copy)]
-pub enum Written {
-    Wrote(usize),
-    Refused(Refusal),
 }

@@ -7,7 +7,7 @@ use lib.Seq.{length-take-le}
 use Rattle.sheet.specs.Contents.{plan_body}
 use Rattle.sheet.specs.Reading.{sheet_check}
 use Rattle.sheet.specs.WellFormed.{WellFormedPlan}
-use Rattle.sheet.specs.declared.Check.TheVariants.{Passed}
+use Rattle.std.specs.Prelude.{Ok}
 use Rattle.sheet.proofs.Acceptance.Parts.{bodies_kept}
 use Rattle.closest.specs.Internal.Distances.{StepsMarked}
 use Rattle.closest.specs.Internal.Ordering.{Ordered}
@@ -26,7 +26,7 @@ module _ (c : After-order_states-count) where
   abbrev sheet : List ℕ
   sheet = start.args.sheet.now
 
-  abbrev accepted : sheet_check sheet ≡ Passed
+  abbrev accepted : sheet_check sheet ≡ Ok tt
   accepted = start.requires
 
   marked : StepsMarked (plan_body sheet) c.order_states-count.new.marks
@@ -45,12 +45,12 @@ slice_bounds-query_in_turn-end c =
 pub answer_passed-requires : goal.answer_passed-requires
 answer_passed-requires c =
     let b = (goal.at.answer_passed-requires c).After-order_states-count in
-    answer_required (sheet b) (accepted b) c.args.table.now (ordered b) (marked b) c.query_in_turn-answer.ensures c.in-Judged.is
+    answer_required (sheet b) (accepted b) c.args.table.now (ordered b) (marked b) c.query_in_turn-answer.ensures c.in-Ok.is
 
-pub returns-in-Judged : goal.returns-in-Judged
-returns-in-Judged c =
-    let b = (goal.at.returns-in-Judged c).After-order_states-count in
-    finds_answer (sheet b) (accepted b) c.args.table.now (ordered b) (marked b) c.query_in_turn-answer.ensures c.in-Judged.is
+pub returns-in-Ok : goal.returns-in-Ok
+returns-in-Ok c =
+    let b = (goal.at.returns-in-Ok c).After-order_states-count in
+    finds_answer (sheet b) (accepted b) c.args.table.now (ordered b) (marked b) c.query_in_turn-answer.ensures c.in-Ok.is
     c.answer_passed.ensures
 
 pub returns-in-WrongCount : goal.returns-in-WrongCount
