@@ -71,21 +71,6 @@ pub record ConversionReport : Type 0 where
   pub place : ℕ
   pub size : ℕ
 
--- the number and the place of an error
-abbrev pub number_of_error : ConvertError → ℕ
-number_of_error Malformed = 37
-number_of_error StateOutOfRange = 38
-number_of_error OverLimits = 39
--- document 01: "22: output buffer too short (calls that write a sheet or a body)."
-number_of_error OutputShort = number_of SheetRefusal.OutputShort
-
--- "Other places are 0."
-abbrev pub place_of_error : ConvertError → ℕ
-place_of_error Malformed = 0
-place_of_error StateOutOfRange = 0
-place_of_error OverLimits = 0
-place_of_error OutputShort = place_of SheetRefusal.OutputShort
-
 -- document 01: "An accepted call gives number 0 and place 0."; on a refusal its number, "Other places are 0.", and "lengths and any further
 -- result number 0"
 abbrev pub reported_conversion : Converted → ConversionReport

@@ -15,8 +15,8 @@ mod pass;
 mod scanning;
 mod writing;
 
-ghost use Rattle.std.specs.Prelude.{◌≡◌};
-ghost use Rattle.aut.specs.Converting.{number_of_error, place_of_error};
+ghost use Rattle.std.specs.Prelude.{Err};
+ghost use Rattle.aut.specs.Converting.{reported_conversion};
 
 use sheet::{Numbered, Refusal};
 
@@ -29,11 +29,12 @@ pub enum ConvertError {
     OutputShort,
 }
 
-impl ConvertError {
-    // Its number: 37, 38, 39 or 22.
-    pub fn number(&self) -> u8
-        ensures { result ≡ number_of_error self.now }
-    {
+impl Numbered for ConvertError {
+    ghost number = { λ e. (reported_conversion (Err e)).number };
+
+    ghost place = { λ e. (reported_conversion (Err e)).place };
+
+    fn number(&self) -> u8 {
         match self {
             ConvertError::Malformed => 37,
             ConvertError::StateOutOfRange => 38,
@@ -42,15 +43,7 @@ impl ConvertError {
         }
     }
 
-    // Its place, which is always 0.
-    pub fn place(&self) -> u16
-        ensures { result ≡ place_of_error self.now }
-    {
-        match self {
-            ConvertError::Malformed => 0,
-            ConvertError::StateOutOfRange => 0,
-            ConvertError::OverLimits => 0,
-            ConvertError::OutputShort => Refusal::OutputShort.place(),
-        }
+    fn place(&self) -> u16 {
+        0
     }
 }
