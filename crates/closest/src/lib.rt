@@ -4,8 +4,8 @@
 
 mod distances;
 pub mod finding;
-mod layers;
 mod ordering;
+mod states;
 pub mod tracing;
 
 ghost use Rattle.std.specs.Prelude.{◌≡◌};
@@ -28,6 +28,13 @@ pub enum Closest {
     },
     WrongCount,
     Refused(Refusal),
+}
+
+// The state at which the rule fails, and its steps from state 0.
+#[derive(Clone, Copy)]
+pub struct Failing {
+    pub state: State,
+    pub steps: u8,
 }
 
 impl Closest {
