@@ -5,12 +5,11 @@ ghost use Rattle.closest.specs.Tracing.{way_to, way_bytes, Traces};
 ghost use Rattle.closest.specs.Internal.Distances.{StepsFound};
 ghost use Rattle.closest.specs.Internal.Tracing.{LastsRight, WayRequires};
 
-use crate::Traced;
 use crate::distances::{Distances, find_distances};
 use graph::MOST_STATES;
 use sheet::plan::{state_count, transition, transition_count};
 use sheet::reader::{check, plan_body};
-use sheet::{Check, Refusal, State};
+use sheet::{Refusal, State};
 
 // Of each state the number of the last transition of the way to it.
 type Lasts = [u16; MOST_STATES];
@@ -46,26 +45,23 @@ fn put_way(plan: &[u8], lasts: &Lasts, state: State, steps: u8, out: &mut [u8])
     }
 }
 
-// One shortest way from state 0 to a state: out holds, from its start, its transitions in order, three bytes each (from, action, to). Where no way leads
-// to the state, and on a refusal, out is unchanged.
-pub fn shortest_way(sheet: &[u8], state: State, out: &mut [u8]) -> Traced
+// One shortest way from state 0 to a state: its steps, None where no way leads there. out then holds, from its start, the way's transitions in order, three
+// bytes each (from, action, to). Where no way leads to the state, and on a refusal, out is unchanged.
+pub fn shortest_way(sheet: &[u8], state: State, out: &mut [u8]) -> Result<Option<u8>, Refusal>
     ensures { Traces sheet.now state.0 out.old result out.new }
 {
-    match check(sheet) {
-        Check::Failed(x) => return Traced::Refused(x),
-        Check::Passed => (),
-    }
+    check(sheet)?;
     let plan = plan_body(sheet);
     if state_count(plan) <= state.0 {
-        return Traced::Refused(Refusal::NoSuchState);
+        return Err(Refusal::NoSuchState);
     }
     let distances = find_distances(plan);
     let Some(steps) = distances[usize::from(state.0)] else {
-        return Traced::Unreachable;
+        return Ok(None);
     };
     if out.len() < 3 * usize::from(steps) {
-        return Traced::Refused(Refusal::OutputShort);
+        return Err(Refusal::OutputShort);
     }
     put_way(plan, &find_lasts(plan, &distances), state, steps, out);
-    Traced::Way { steps }
+    Ok(Some(steps))
 }

@@ -1,20 +1,19 @@
 -- Document 01, "Sheets to try": P1 to P11, "shown together, as one conjunction over the rows and Table 1"; and a sheet for document 02 (b).
-use Rattle.std.specs.Prelude.{◌≡◌, ℕ, ◌≤◌, Bool, true, false, ◌↔◌, List, [], ◌∷◌, length}
+use Rattle.std.specs.Prelude.{◌≡◌, ℕ, ◌≤◌, Bool, true, false, ◌↔◌, List, [], ◌∷◌, length, Result, Ok}
 use Rattle.sheet.specs.Writing.{sheet_of}
 use Rattle.sheet.specs.Reading.{sheet_check}
-use Rattle.sheet.specs.declared.Check.TheVariants.{Passed}
+use Rattle.sheet.specs.declared.Refusal.{Refusal}
 use Rattle.calculus.specs.MeetingMask.{bit}
 use Rattle.calculus.specs.GuardCheck.{guarded_rule, reported_guard, Guards}
 use Rattle.calculus.specs.Verdict.{Verdict}
 use Rattle.calculus.specs.KeySheet.{key_sheet, K, looped}
-use Rattle.calculus.specs.declared.Guard.{Guard}
 use Rattle.judge.specs.Cells.{table_bytes}
 use Rattle.judge.specs.Clearing.{Clears}
 use Rattle.judge.specs.Querying.{QueryReport, reported_query, Queries}
 use Rattle.judge.specs.Lists.{Calls}
 use Rattle.judge.specs.Demand3.{ListCorrect}
-use Rattle.judge.specs.declared.Cleared.{Cleared}
-use Rattle.judge.specs.declared.Queried.{Queried}
+use Rattle.judge.specs.Clearing.{Cleared}
+use Rattle.judge.specs.Querying.{Queried}
 
 -- ---- the sheets
 
@@ -71,7 +70,7 @@ refused_by number = record { number = number; place = 0; verdict = false; visits
 -- `query` for the states, one after the other, after a call of `clear`, report this; and they are what the rows and Table 1 say
 -- (specs/Demand3.antt)
 pub record Asked (s : List ℕ) (size : ℕ) (states : List ℕ) (answers : List QueryReport) : Type 0 where
-  pub accepted : sheet_check s ≡ Passed
+  pub accepted : sheet_check s ≡ Ok tt
   pub table_size_holds : table_bytes s ≡ size
   pub report :
       (t : List ℕ) → size ≤ length t → (r : Cleared) (u : List ℕ) (reported : List QueryReport) (left : List ℕ)
@@ -106,7 +105,7 @@ pub record SheetsToTry : Type 0 where
   pub p5 : WordMeans K 3
   -- "P6: K is unguarded.": by Definition 2, and every call of `guard` answers no
   pub p6 : guarded_rule K ≡ false
-  pub p6_call : (r : Guard) → Guards K r → reported_guard r ≡ record { number = 0; place = 0; answer = false }
+  pub p6_call : (r : Result Bool Refusal) → Guards K r → reported_guard r ≡ record { number = 0; place = 0; answer = false }
   -- "P7: least X.X: false, 2 visits.", at state 0
   pub p7 : Asked least_self 16 (0 ∷ []) (judged false 2 ∷ [])
   pub p7_table1 : Verdict least_self 0 → ⊥

@@ -1,7 +1,6 @@
 -- The step counts of the states, found breadth first. Contracts of private functions cite these; no promise of a public call does.
 use Rattle.std.specs.Prelude.{ℕ, suc, ◌+◌, ◌<◌, ◌≤◌, ◌≡◌, ◌≢◌, Option, None, Some, length, get_or, map, replicate, set, slice_get}
 use mathlib.Core.List.{List, Memᴰ}
-use Rattle.sheet.specs.Plan.{state_count}
 use Rattle.sheet.specs.WellFormed.{WellFormedPlan}
 use Rattle.graph.specs.Explored.{first_from}
 use Rattle.graph.specs.Search.{most_states}

@@ -7,7 +7,7 @@ use Rattle.sheet.specs.Contents.{plan_body, actions_body, rule_body}
 use Rattle.sheet.specs.Plan.{state_count}
 use Rattle.sheet.specs.WellFormed.{WellFormedBodies, WellFormedSheet}
 use Rattle.sheet.specs.Reading.{sheet_check}
-use Rattle.sheet.specs.declared.Check.TheVariants.{Passed}
+use Rattle.std.specs.Prelude.{Ok}
 use Rattle.sheet.proofs.Acceptance.Sheet.{accepted_iff}
 use Rattle.sheet.specs.TransitionSystem.{plan_of}
 use Rattle.calculus.specs.Decode.{formula}
@@ -25,8 +25,9 @@ use Rattle.judge.specs.Cells.{Cell, cell, rows, written_rows, enough, position_o
 use Rattle.judge.specs.StoredCount.{filled_cells}
 use Rattle.judge.specs.Clearing.{table_cleared}
 use Rattle.judge.specs.Querying.{QueryReport, queried_of, table_queried, reported_query}
-use Rattle.judge.specs.declared.Queried.{Queried}
-use Rattle.judge.specs.declared.Queried.TheVariants.{Judged, WrongCount, Refused}
+use Rattle.std.specs.Prelude.{Ok, Err}
+use Rattle.judge.specs.Querying.{Queried}
+use Rattle.judge.specs.declared.QueryError.TheVariants.{WrongCount, Refused}
 use Rattle.judge.specs.OneSolution.{OneSolution}
 use Rattle.judge.specs.Lists.{reports, table_after, Reported, SameAnswers, visits_of, judged_states}
 use Rattle.judge.specs.Demand3.{RefusedState, ComesFrom, NeededFor, SameUnderExchange, ListCorrect, Demand3}
@@ -55,16 +56,16 @@ solution_of s = value (rows (plan_body s) (actions_body s) (rule_body s)) enough
 
 -- what a refused query reports
 refused_report_lem : (q : Queried) → (reported_query q).number ≢ 0 → ((reported_query q).verdict ≡ false) × ((reported_query q).visits ≡ 0)
-refused_report_lem (Judged v n) h = absurd (h refl)
-refused_report_lem WrongCount h = (refl, refl)
-refused_report_lem (Refused x) h = (refl, refl)
+refused_report_lem (Ok j) h = absurd (h refl)
+refused_report_lem (Err WrongCount) h = (refl, refl)
+refused_report_lem (Err (Refused x)) h = (refl, refl)
 
 refused_reports : (s states u : List ℕ) → Reported (λ state q. q.number ≢ 0 → (q.verdict ≡ false) × (q.visits ≡ 0)) states (reports s u states)
 unfolding reports
 refused_reports s [] u = tt
 refused_reports s (state ∷ states) u = (refused_report_lem (queried_of s state u), refused_reports s states (table_queried s state u))
 
-module _ (s : List ℕ) (accepted : sheet_check s ≡ Passed) where
+module _ (s : List ℕ) (accepted : sheet_check s ≡ Ok tt) where
   kept : WellFormedSheet s
   kept = (accepted_iff s).0 accepted
 
@@ -157,7 +158,7 @@ module _ (s : List ℕ) (accepted : sheet_check s ≡ Passed) where
     abbrev other : List ℕ
     other = exchanged choice s
 
-    other_accepted : sheet_check other ≡ Passed
+    other_accepted : sheet_check other ≡ Ok tt
     other_accepted = (accepted_iff other).1 (exchanged_kept choice kept)
 
     other_plan : plan_body other ≡ plan_body s
@@ -187,7 +188,7 @@ module _ (s : List ℕ) (accepted : sheet_check s ≡ Passed) where
         Iff.trans (Iff.symm (verdict_holds s state (below state h)))
         (Iff.trans (same_holds state h) (verdict_holds other state (rw other_plan (below state h))))
 
-module _ (s : List ℕ) (accepted : sheet_check s ≡ Passed) (t : List ℕ) (fits : table_bytes s ≤ length t) (states : List ℕ) where
+module _ (s : List ℕ) (accepted : sheet_check s ≡ Ok tt) (t : List ℕ) (fits : table_bytes s ≤ length t) (states : List ℕ) where
   exchanges : guarded_rule s ≡ true → (choice : ℕ → Bool) → SameUnderExchange s states (reports s (table_cleared s t) states) choice
   exchanges whole choice = record {
     accepted = other_accepted s accepted whole choice;
