@@ -5,7 +5,7 @@ ghost use Rattle.sheet.specs.declared.Check.TheVariants.{Passed};
 ghost use Rattle.graph.specs.LoopSearch.{loop_search_of, reported_loop_search, loop_search_report_of};
 
 use crate::searching::explore;
-use crate::{INDEX_SIZE, LoopSearch};
+use crate::{Index, LoopSearch};
 use sheet::plan::{check_plan, state_count};
 use sheet::{Check, Refusal, State};
 
@@ -18,7 +18,7 @@ fn find_from(plan: &[u8], state: State) -> LoopSearch
     if state_count(plan) <= state.0 {
         return LoopSearch::Refused(Refusal::NoSuchState);
     }
-    let mut index = [0u32; INDEX_SIZE];
+    let mut index = Index::new();
     if explore(plan, &mut index, state) {
         return LoopSearch::Free;
     }

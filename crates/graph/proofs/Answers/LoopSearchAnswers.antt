@@ -3,7 +3,6 @@ use Prim.Native.Nat.{ℕ, ◌<◌, ◌≤◌}
 use mathlib.Core.Bool.{Bool}
 use mathlib.Core.List.{List}
 use mathlib.Core.Path.{◌≡◌, refl, sym, ap, ◌∙◌}
-use lib.ListN.{length}
 use borrow.Author.Tests.{lt-ltb, le-ltb}
 use Rattle.sheet.specs.Bytes.{pick}
 use Rattle.sheet.specs.Plan.{state_count, action_count}
@@ -15,7 +14,8 @@ use Rattle.sheet.specs.declared.Check.TheVariants.{Passed, Failed}
 use Rattle.sheet.proofs.Acceptance.Plan.{plan_iff}
 use Rattle.graph.specs.LoopSearch.{loop_search_check, answer_loop_search, loop_search_of, reported_loop_search, loop_search_report_of}
 use Rattle.graph.specs.Explored.{ExploreRequires}
-use Rattle.graph.specs.Index.{index_size}
+use Rattle.graph.specs.Index.{Sized}
+use Rattle.graph.specs.declared.Index.{Index}
 use Rattle.graph.specs.LoopTest.{loop_free}
 use Rattle.graph.specs.Search.{found_none, explored}
 use Rattle.graph.specs.declared.LoopSearch.{LoopSearch}
@@ -41,7 +41,7 @@ module _ (p : List ℕ) (state : ℕ) where
     no_state_holds h = answers (Refused NoSuchState) (Failed NoSuchState) (rw (passed, le-ltb state (state_count p) h)) refl
 
     -- the search from a state of the plan, with an index of the right size, found no loop, or one
-    module _ (few : action_count p < 256) (below : state < state_count p) (index : List ℕ) (sized : length index ≡ index_size) where
+    module _ (few : action_count p < 256) (below : state < state_count p) (index : Index) (sized : Sized index) where
       given : ExploreRequires p index state
       given = record { kept = (plan_iff p).0 passed; few_actions = few; sized = sized; state_below = below }
 

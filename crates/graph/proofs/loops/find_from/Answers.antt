@@ -1,10 +1,11 @@
 -- `graph::loops::find_from` meets its contract.
 use native.Mathlib.Omega.{arith}
-use mathlib.Core.Path.{◌≡◌, refl}
+use mathlib.Core.Path.{◌≡◌}
 use mathlib.Core.Bool.{Bool, true, false}
 use Rattle.sheet.specs.Bytes.{pick}
 use Rattle.graph.specs.declared.LoopSearch.TheVariants.{Free, Found}
 use Rattle.graph.proofs.Answers.LoopSearchAnswers.{Answers, no_state_holds, looked}
+use Rattle.graph.proofs.Search.Retaining.{blank_sized}
 use Rattle.graph.proofs.loops.find_from.Goals as goal
 use Rattle.graph.proofs.loops.find_from.Goals.{After-explore, Start}
 
@@ -21,7 +22,7 @@ module _ (c : After-explore) where
   found b e =
       let known = c.shared_slice_known-1 in
       looked start.args.plan.now start.args.state.0 start.requires (omega (arith, known.given 1))
-      (omega (arith, c.state_count.ensures)) _ refl _ b c.explore.ensures.value e
+      (omega (arith, c.state_count.ensures)) _ (blank_sized c.new-index.ensures) _ b c.explore.ensures.value e
 
 pub returns-then-explore : goal.returns-then-explore
 returns-then-explore c = record { value = (found (goal.at.returns-then-explore c).After-explore true c.if-explore.true).0; result_value = (found (goal.at.returns-then-explore c).After-explore true c.if-explore.true).1 }
