@@ -14,7 +14,7 @@ mod pass;
 ghost use Rattle.std.specs.Prelude.{◌≡◌};
 ghost use Rattle.action_line.specs.Parsing.{reported_parse};
 
-use sheet::Refusal;
+use sheet::{Numbered, Refusal};
 
 // The most entries that an action table may have, and the bytes of the longest body.
 const MOST_ENTRIES: usize = 32;

@@ -10,9 +10,9 @@ use crate::dealing::deal;
 use crate::{Answer, Bench, Granted, MOST_BENCHES};
 use judge::Queried;
 use judge::table::table_size;
+use sheet::State;
 use sheet::decode::slice_of;
 use sheet::reader::check;
-use sheet::{Check, State};
 
 // Where there is no bench every result is 0.
 fn no_bench() -> Bench
@@ -196,7 +196,7 @@ pub fn grant(sheet: &[u8], states: &[u8], allowance: u32, tables: &mut [u8]) -> 
     }
     let checked = check(sheet);
     match checked {
-        Check::Failed(x) => refused(Answer::Refused(x)),
-        Check::Passed => grant_accepted(sheet, states, allowance, tables),
+        Err(x) => refused(Answer::Refused(x)),
+        Ok(()) => grant_accepted(sheet, states, allowance, tables),
     }
 }

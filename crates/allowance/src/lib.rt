@@ -9,7 +9,7 @@ pub mod granting;
 ghost use Rattle.std.specs.Prelude.{◌≡◌};
 ghost use Rattle.allowance.specs.Granting.{reported_answer};
 
-use sheet::Refusal;
+use sheet::{Numbered, Refusal};
 
 // The most benches of a call.
 pub const MOST_BENCHES: usize = 8;

@@ -18,7 +18,7 @@ mod writing;
 ghost use Rattle.std.specs.Prelude.{◌≡◌};
 ghost use Rattle.aut.specs.Converting.{reported_conversion};
 
-use sheet::Refusal;
+use sheet::{Numbered, Refusal};
 
 // What the converter answers: the length of the plan body that it wrote, or why it turned its input down.
 #[derive(Clone, Copy)]

@@ -1,6 +1,6 @@
 -- Document 02 (i), of every call of `propose` and of `commit`: which number it gives, exactly, what it proposes or writes, and what the new
 -- sheet is. Shown by branches_correct of proofs/Statements/BranchesCorrect.antt.
-use Rattle.std.specs.Prelude.{ℕ, suc, ◌+◌, ◌<◌, ◌≤◌, ◌≡◌, true, ◌↔◌, ◌≢◌, ◌⊎◌, length, take, drop}
+use Rattle.std.specs.Prelude.{ℕ, suc, ◌+◌, ◌<◌, ◌≤◌, ◌≡◌, true, ◌↔◌, ◌≢◌, ◌⊎◌, length, take, drop, Ok}
 use mathlib.Core.List.{List, ◌∷◌, ◌++◌, Memᴰ}
 use Rattle.sheet.specs.Contents.{plan_body, actions_body, rule_body}
 use Rattle.sheet.specs.Plan.{state_count, action_count, transition_count}
@@ -8,7 +8,6 @@ use Rattle.sheet.specs.Reading.{sheet_check}
 use Rattle.sheet.specs.RefusalOrder.{GivenInOrder}
 use Rattle.sheet.specs.TransitionSystem.{LabelledTransition, transition_of, plan_of, precedes}
 use Rattle.sheet.specs.WellFormed.{WellFormedSheet}
-use Rattle.sheet.specs.declared.Check.TheVariants.{Passed}
 use Rattle.sheet.specs.declared.Transition.{Transition}
 use Rattle.graph.specs.Loops.{LoopReachable}
 use Rattle.graph.specs.Successors.{targets, successors}
@@ -79,7 +78,7 @@ pub record ProposeAnswered (s : List ℕ) (t : LabelledTransition) (answer : Pro
 -- the new sheet of the sheet s and the transition t, by the proposal q
 pub record NewSheet (s : List ℕ) (t : LabelledTransition) (q : Proposal) (new : List ℕ) : Type 0 where
   -- it is accepted, and keeps every rule of a sheet
-  pub passed : sheet_check new ≡ Passed
+  pub passed : sheet_check new ≡ Ok tt
   pub accepted : WellFormedSheet new
   -- its length is the one proposed
   pub length_proposed : length new ≡ q.length

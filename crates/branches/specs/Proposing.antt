@@ -1,14 +1,13 @@
 -- Document 02 (i): "Propose gives the insertion place (a transition number), the new file's length and the sheet's tag". What it answers
 -- for every sheet and every transition. "It changes no buffer.": it is lent none that it could change.
-use Rattle.std.specs.Prelude.{ℕ, ◌≡◌, Bool, List, length}
+use Rattle.std.specs.Prelude.{ℕ, ◌≡◌, Bool, List, length, Err, Ok}
 use Rattle.sheet.specs.Bytes.{pick}
 use Rattle.sheet.specs.Contents.{plan_body}
 use Rattle.sheet.specs.Reading.{sheet_check}
 use Rattle.sheet.specs.Refusals.{number_of, place_of}
 use Rattle.sheet.specs.TransitionSystem.{LabelledTransition}
 use Rattle.sheet.specs.declared.Refusal.TheVariants.{Loop}
-use Rattle.sheet.specs.declared.Check.{Check}
-use Rattle.sheet.specs.declared.Check.TheVariants.{Passed, Failed}
+use Rattle.sheet.specs.Refusals.{Check}
 use Rattle.sheet.specs.declared.Transition.{Transition}
 use Rattle.graph.specs.LoopTest.{loop_free}
 use Rattle.branches.specs.Tags.{tag_of}
@@ -31,8 +30,8 @@ answer_branch fits free q = pick fits (pick free (Offered q) (Refused Loop)) Bra
 
 -- document 01: "They apply in rising order.": 1 to 10 come first
 abbrev pub answer_sheet : Check → Proposed → Proposed
-answer_sheet Passed next = next
-answer_sheet (Failed x) next = Refused x
+answer_sheet (Ok tt) next = next
+answer_sheet (Err x) next = Refused x
 
 -- what propose answers for every sheet and transition
 unfoldable pub proposed_of : List ℕ → LabelledTransition → Proposed

@@ -2,7 +2,7 @@
 ghost use Rattle.std.specs.Prelude.{◌≡◌, ◌≤◌, length};
 ghost use Rattle.sheet.specs.WellFormed.{WellFormedPlan};
 ghost use Rattle.sheet.specs.Reading.{sheet_check};
-ghost use Rattle.sheet.specs.declared.Check.TheVariants.{Passed};
+ghost use Rattle.std.specs.Prelude.{Ok};
 ghost use Rattle.graph.specs.LoopTest.{loop_free};
 ghost use Rattle.branches.specs.Branches.{labelled};
 ghost use Rattle.branches.specs.Internal.Examining.{longest_plan, Looking, looked_of, Examined};
@@ -14,7 +14,7 @@ use crate::{Proposal, Proposed};
 use graph::INDEX_SIZE;
 use graph::searching::explore;
 use sheet::reader::{check, plan_body};
-use sheet::{Check, Refusal, State, Transition};
+use sheet::{Refusal, State, Transition};
 
 // No loop can be reached from state 0 of a well-formed plan.
 fn is_free(plan: &[u8]) -> bool
@@ -42,7 +42,7 @@ fn look(sheet: &[u8], place: usize, new: &[u8]) -> Proposed
 
 // The answer for an accepted sheet.
 fn examine_accepted(sheet: &[u8], branch: Transition, room: &mut [u8]) -> Proposed
-    requires { (sheet_check sheet.now ≡ Passed) × (longest_plan ≤ length room.old) }
+    requires { (sheet_check sheet.now ≡ Ok tt) × (longest_plan ≤ length room.old) }
     ensures { Examined sheet.now (labelled branch) result room.new }
 {
     let plan = plan_body(sheet);
@@ -61,7 +61,7 @@ pub(crate) fn examine(sheet: &[u8], branch: Transition, room: &mut [u8]) -> Prop
 {
     let checked = check(sheet);
     match checked {
-        Check::Failed(x) => Proposed::Refused(x),
-        Check::Passed => examine_accepted(sheet, branch, room),
+        Err(x) => Proposed::Refused(x),
+        Ok(()) => examine_accepted(sheet, branch, room),
     }
 }

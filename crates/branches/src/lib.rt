@@ -15,7 +15,7 @@ ghost use Rattle.std.specs.Prelude.{◌≡◌};
 ghost use Rattle.branches.specs.Proposing.{reported_proposal};
 ghost use Rattle.branches.specs.Committing.{reported_commit};
 
-use sheet::Refusal;
+use sheet::{Numbered, Refusal};
 
 // How many transitions stand before the new one, which is its number; the length of the new file; and the tag of the old one.
 #[derive(Clone, Copy)]

@@ -1,10 +1,9 @@
 -- Document 01: "Exchanging fixed points turns 7 into 8 or 8 into 7 in any choice of binder nodes, and changes no other byte".
-use Rattle.std.specs.Prelude.{ℕ, ◌+◌, ◌*◌, ◌<◌, ◌≡◌, Bool, true, List, ◌⊎◌, length, eqb}
+use Rattle.std.specs.Prelude.{ℕ, ◌+◌, ◌*◌, ◌<◌, ◌≡◌, Bool, true, List, ◌⊎◌, length, eqb, Ok}
 use Rattle.sheet.specs.Bytes.{byte, pick}
 use Rattle.sheet.specs.Contents.{rule_offset, rule_body}
 use Rattle.sheet.specs.Rule.{node_count}
 use Rattle.sheet.specs.Reading.{sheet_check}
-use Rattle.sheet.specs.declared.Check.TheVariants.{Passed}
 use Rattle.calculus.specs.KindMap.{map_rule_kinds, map_sheet_kinds}
 
 -- "7 into 8 or 8 into 7"; a kind of another node stays
@@ -46,4 +45,4 @@ pub record FixedPointsExchanged (choice : ℕ → Bool) (s s' : List ℕ) : Type
 
 -- of every accepted sheet and every choice
 abbrev pub ExchangeOfBytes : Type 0
-ExchangeOfBytes = (choice : ℕ → Bool) (s : List ℕ) → sheet_check s ≡ Passed → FixedPointsExchanged choice s (exchanged choice s)
+ExchangeOfBytes = (choice : ℕ → Bool) (s : List ℕ) → sheet_check s ≡ Ok tt → FixedPointsExchanged choice s (exchanged choice s)

@@ -1,12 +1,11 @@
 -- Document 01: "The guard check answers yes exactly when the rule is guarded by Definition 2."
-use Rattle.std.specs.Prelude.{ℕ, ◌≡◌, Bool, true, false, List, ◌↔◌}
+use Rattle.std.specs.Prelude.{ℕ, ◌≡◌, Bool, true, false, List, ◌↔◌, Err, Ok}
 use Rattle.sheet.specs.Refusals.{number_of, place_of}
 use Rattle.sheet.specs.Contents.{actions_body, rule_body}
 use Rattle.sheet.specs.Reading.{sheet_check}
 use Rattle.sheet.specs.RefusalOrder.{GivenInOrder}
 use Rattle.sheet.specs.WellFormed.{WellFormedSheet}
-use Rattle.sheet.specs.declared.Check.{Check}
-use Rattle.sheet.specs.declared.Check.TheVariants.{Passed, Failed}
+use Rattle.sheet.specs.Refusals.{Check}
 use Rattle.sheet.specs.declared.Refusal.{Refusal}
 use Rattle.calculus.specs.Definition2.{guarded}
 use Rattle.calculus.specs.Decode.{formula}
@@ -19,8 +18,8 @@ guarded_rule s = guarded (formula (actions_body s) (rule_body s) 0)
 
 -- yes or no for an accepted sheet, else its refusal
 abbrev pub answer_guard : List ℕ → Check → Guard
-answer_guard s Passed = Answered (guarded_rule s)
-answer_guard s (Failed r) = Refused r
+answer_guard s (Ok tt) = Answered (guarded_rule s)
+answer_guard s (Err r) = Refused r
 
 -- "Reader and guard check give 1 to 10": the answer for every list of bytes
 unfoldable pub guard_of : List ℕ → Guard
@@ -51,12 +50,12 @@ Guards s r = (r ≡ guard_of s) × (reported_guard r ≡ guard_report_of s)
 -- what `guard` answered and reported, by what the sheet is
 pub record GuardCorrect (s : List ℕ) (r : Guard) : Type 0 where
   -- "answers yes exactly when the rule is guarded by Definition 2"
-  pub exactly : sheet_check s ≡ Passed → (r ≡ Answered true) ↔ (guarded_rule s ≡ true)
+  pub exactly : sheet_check s ≡ Ok tt → (r ≡ Answered true) ↔ (guarded_rule s ≡ true)
   -- "An accepted call gives number 0 and place 0."
-  pub answered : sheet_check s ≡ Passed → reported_guard r ≡ record { number = 0; place = 0; answer = guarded_rule s }
+  pub answered : sheet_check s ≡ Ok tt → reported_guard r ≡ record { number = 0; place = 0; answer = guarded_rule s }
   -- "Reader and guard check give 1 to 10"; "A refused call gives verdict and guard answer false"
   pub refused :
-      (x : Refusal) → sheet_check s ≡ Failed x
+      (x : Refusal) → sheet_check s ≡ Err x
       → reported_guard r ≡ record { number = number_of x; place = place_of x; answer = false }
   -- "An accepted call gives number 0", and no other
   pub accepted : ((reported_guard r).number ≡ 0) ↔ WellFormedSheet s

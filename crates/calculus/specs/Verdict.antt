@@ -1,9 +1,8 @@
 -- Document 01: "Table 1's verdict at s is true exactly when s is in the meaning of the rule".
-use Rattle.std.specs.Prelude.{ℕ, ◌<◌, ◌≡◌, Bool, false, List, ◌↔◌}
+use Rattle.std.specs.Prelude.{ℕ, ◌<◌, ◌≡◌, Bool, false, List, ◌↔◌, Ok}
 use Rattle.sheet.specs.Contents.{plan_body, actions_body, rule_body}
 use Rattle.sheet.specs.Plan.{state_count}
 use Rattle.sheet.specs.Reading.{sheet_check}
-use Rattle.sheet.specs.declared.Check.TheVariants.{Passed}
 use Rattle.calculus.specs.Meaning.{Holds}
 use Rattle.sheet.specs.TransitionSystem.{plan_of}
 use Rattle.calculus.specs.Decode.{formula}
@@ -22,6 +21,6 @@ Verdict s state =
 -- context_independent of proofs/Table1/Verdicts.antt.
 abbrev pub ContextIndependent : Type 0
 ContextIndependent =
-    (s : List ℕ) → sheet_check s ≡ Passed → (ρ : ℕ → ℕ → Bool) (state : ℕ) → state < state_count (plan_body s)
+    (s : List ℕ) → sheet_check s ≡ Ok tt → (ρ : ℕ → ℕ → Bool) (state : ℕ) → state < state_count (plan_body s)
     → Holds (plan_of (plan_body s)) (formula (actions_body s) (rule_body s) 0) ρ state
     ↔ Holds (plan_of (plan_body s)) (formula (actions_body s) (rule_body s) 0) empty_context state

@@ -6,7 +6,7 @@ ghost use Rattle.calculus.specs.GuardCheck.{Guards};
 use crate::Guard;
 use sheet::reader::{check, rule_body};
 use sheet::rule::{bound_before, node};
-use sheet::{Check, Node, Variable};
+use sheet::{Node, Variable};
 
 // Whether the formula of node n is guarded. Definition 2's set has the variables whose binders stand from node first on: a binder joins it, a modality
 // empties it, and a variable must not be in it.
@@ -40,7 +40,7 @@ pub fn guard(sheet: &[u8]) -> Guard
 {
     let checked = check(sheet);
     match checked {
-        Check::Failed(x) => Guard::Refused(x),
-        Check::Passed => Guard::Answered(guarded_since(rule_body(sheet), Node(0), Node(0))),
+        Err(x) => Guard::Refused(x),
+        Ok(()) => Guard::Answered(guarded_since(rule_body(sheet), Node(0), Node(0))),
     }
 }

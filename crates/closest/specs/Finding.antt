@@ -1,11 +1,10 @@
 -- Document 02 (m): the closest state that breaks the rule. What the call answers and what it leaves in the table's buffer, for every list
 -- of bytes as sheet and as buffer.
-use Rattle.std.specs.Prelude.{ℕ, ◌≡◌, Bool, true, false, List, [], ◌∷◌, map}
+use Rattle.std.specs.Prelude.{ℕ, ◌≡◌, Bool, true, false, List, [], ◌∷◌, map, Err, Ok}
 use Rattle.sheet.specs.Bytes.{pick}
 use Rattle.sheet.specs.Contents.{plan_body}
 use Rattle.sheet.specs.Refusals.{number_of, place_of}
-use Rattle.sheet.specs.declared.Check.{Check}
-use Rattle.sheet.specs.declared.Check.TheVariants.{Passed, Failed}
+use Rattle.sheet.specs.Refusals.{Check}
 use Rattle.rows.specs.Tables.{Result, visits}
 use Rattle.judge.specs.Querying.{query_check, count_right, left_by}
 use Rattle.judge.specs.InTurn.{holds_by, result_in_turn}
@@ -49,9 +48,9 @@ answer_found (fails_at x) n = Fails (record { 0 = x.state }) x.steps n
 
 -- "Refusals go as for a query of state 0": 1 to 12, 20 and 21, then 35
 abbrev pub answer_closest : Found → ℕ → Check → Bool → Closest
-answer_closest f n Passed true = answer_found f n
-answer_closest f n Passed false = WrongCount
-answer_closest f n (Failed x) right = Refused x
+answer_closest f n (Ok tt) true = answer_found f n
+answer_closest f n (Ok tt) false = WrongCount
+answer_closest f n (Err x) right = Refused x
 
 -- the answer for every sheet and table
 unfoldable pub closest_of : List ℕ → List ℕ → Closest

@@ -1,14 +1,13 @@
 -- Document 02 (m): one shortest way from state 0 to a state, such as the "closest state that breaks the rule". What the call answers and
 -- what it leaves in the output buffer, for every list of bytes as sheet and as buffer and for every state.
-use Rattle.std.specs.Prelude.{ℕ, zero, suc, ◌*◌, ◌≡◌, Bool, true, false, ◌&&◌, List, [], ◌∷◌, ◌++◌, length, drop, eqb, ltb, leb}
+use Rattle.std.specs.Prelude.{ℕ, zero, suc, ◌*◌, ◌≡◌, Bool, true, false, ◌&&◌, List, [], ◌∷◌, ◌++◌, length, drop, eqb, ltb, leb, Err, Ok}
 use Rattle.sheet.specs.Bytes.{pick, lowest}
 use Rattle.sheet.specs.Contents.{plan_body}
 use Rattle.sheet.specs.Plan.{state_count, transition_count, origin, target}
 use Rattle.sheet.specs.Reading.{sheet_check}
 use Rattle.sheet.specs.Refusals.{number_of, place_of, require, and_then}
 use Rattle.sheet.specs.TransitionSystem.{LabelledTransition, transition_of}
-use Rattle.sheet.specs.declared.Check.{Check}
-use Rattle.sheet.specs.declared.Check.TheVariants.{Passed, Failed}
+use Rattle.sheet.specs.Refusals.{Check}
 use Rattle.sheet.specs.declared.Refusal.TheVariants.{NoSuchState, OutputShort}
 use Rattle.closest.specs.Steps.{at_steps}
 use Rattle.closest.specs.declared.Traced.{Traced}
@@ -54,8 +53,8 @@ answer_steps n room = pick (leb (3 * n) room) (Way n) (Refused OutputShort)
 
 -- "They apply in rising order"; of a state that can't be reached there is nothing to write
 abbrev pub answer_traced : Bool → ℕ → ℕ → Check → Traced
-answer_traced reached n room Passed = pick reached (answer_steps n room) Unreachable
-answer_traced reached n room (Failed x) = Refused x
+answer_traced reached n room (Ok tt) = pick reached (answer_steps n room) Unreachable
+answer_traced reached n room (Err x) = Refused x
 
 -- the answer for every sheet and state and an output of so many bytes
 unfoldable pub traced_of : List ℕ → ℕ → ℕ → Traced

@@ -1,7 +1,7 @@
 // The public call: the reachable states in order, queried in turn.
 ghost use Rattle.std.specs.Prelude.{◌≡◌};
 ghost use Rattle.sheet.specs.Reading.{sheet_check};
-ghost use Rattle.sheet.specs.declared.Check.TheVariants.{Passed};
+ghost use Rattle.std.specs.Prelude.{Ok};
 ghost use Rattle.closest.specs.Finding.{Finds};
 ghost use Rattle.closest.specs.Internal.Answering.{AnswerRequires, Answered};
 
@@ -11,8 +11,8 @@ use crate::ordering::{Order, order_states};
 use graph::MOST_STATES;
 use judge::InTurn;
 use judge::turns::query_in_turn;
+use sheet::State;
 use sheet::reader::{check, plan_body};
-use sheet::{Check, State};
 
 // The answer where so many of the states in order passed: all of them, or the next is the closest that does not.
 fn answer_passed(
@@ -40,7 +40,7 @@ fn answer_passed(
 // The search on an accepted sheet. A loop that can be reached from a reachable state can be reached from state 0, so that the refusals are those of its
 // query.
 fn find_accepted(sheet: &[u8], table: &mut [u8]) -> Closest
-    requires { sheet_check sheet.now ≡ Passed }
+    requires { sheet_check sheet.now ≡ Ok tt }
     ensures { Finds sheet.now table.old result table.new }
 {
     let mut marks = [0u8; MOST_STATES];
@@ -61,7 +61,7 @@ pub fn find_closest(sheet: &[u8], table: &mut [u8]) -> Closest
 {
     let checked = check(sheet);
     match checked {
-        Check::Failed(x) => Closest::Refused(x),
-        Check::Passed => find_accepted(sheet, table),
+        Err(x) => Closest::Refused(x),
+        Ok(()) => find_accepted(sheet, table),
     }
 }

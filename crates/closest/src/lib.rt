@@ -12,7 +12,7 @@ ghost use Rattle.std.specs.Prelude.{◌≡◌};
 ghost use Rattle.closest.specs.Finding.{reported_closest};
 ghost use Rattle.closest.specs.Tracing.{reported_trace};
 
-use sheet::{Refusal, State};
+use sheet::{Numbered, Refusal, State};
 
 // Where the rule fails first, or that it holds everywhere, and how many cells were filled; or why the call was turned down, of which a wrong count is one
 // reason.

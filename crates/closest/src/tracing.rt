@@ -3,7 +3,7 @@ ghost use Rattle.std.specs.Prelude.{◌≡◌, ◌++◌, ◌*◌, ◌<◌, drop}
 ghost use Rattle.sheet.specs.Contents.{plan_body};
 ghost use Rattle.sheet.specs.Plan.{state_count};
 ghost use Rattle.sheet.specs.Reading.{sheet_check};
-ghost use Rattle.sheet.specs.declared.Check.TheVariants.{Passed};
+ghost use Rattle.std.specs.Prelude.{Ok};
 ghost use Rattle.closest.specs.Tracing.{way_to, way_bytes, Traces};
 ghost use Rattle.closest.specs.Internal.Tracing.{LastsRight, LastsRequire, WayRequires};
 
@@ -12,7 +12,7 @@ use crate::distances::{Marks, mark_steps, wide};
 use graph::MOST_STATES;
 use sheet::plan::{state_count, transition_count};
 use sheet::reader::{check, plan_body};
-use sheet::{Check, Refusal, State};
+use sheet::{Refusal, State};
 
 // Of each state the number of the last transition of the way to it.
 type Lasts = [usize; MOST_STATES];
@@ -54,7 +54,7 @@ fn put_way(plan: &[u8], lasts: &Lasts, state: usize, steps: usize, out: &mut [u8
 
 // The answer for a state of an accepted sheet.
 fn trace_state(sheet: &[u8], state: State, out: &mut [u8]) -> Traced
-    requires { (sheet_check sheet.now ≡ Passed) × (state.0 < state_count (plan_body sheet.now)) }
+    requires { (sheet_check sheet.now ≡ Ok tt) × (state.0 < state_count (plan_body sheet.now)) }
     ensures { Traces sheet.now state.0 out.old result out.new }
 {
     let plan = plan_body(sheet);
@@ -83,8 +83,8 @@ pub fn shortest_way(sheet: &[u8], state: State, out: &mut [u8]) -> Traced
 {
     let checked = check(sheet);
     match checked {
-        Check::Failed(x) => Traced::Refused(x),
-        Check::Passed => {
+        Err(x) => Traced::Refused(x),
+        Ok(()) => {
             if state_count(plan_body(sheet)) <= state.0 {
                 return Traced::Refused(Refusal::NoSuchState);
             }

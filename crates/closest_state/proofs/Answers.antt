@@ -8,8 +8,8 @@ use lib.ListN.{length}
 use Rattle.sheet.specs.Contents.{plan_body}
 use Rattle.sheet.specs.Plan.{state_count}
 use Rattle.sheet.specs.Reading.{sheet_check}
-use Rattle.sheet.specs.declared.Check.{Check}
-use Rattle.sheet.specs.declared.Check.TheVariants.{Passed, Failed}
+use Rattle.std.specs.Prelude.{Err, Ok}
+use Rattle.sheet.specs.Refusals.{Check}
 use Rattle.sheet.specs.declared.Refusal.{Refusal}
 use Rattle.sheet.specs.declared.State.{State}
 use Rattle.sheet.proofs.Acceptance.Parts.{plan_kept}
@@ -32,7 +32,7 @@ use Rattle.closest.proofs.Traces.Backwards.{written}
 use Rattle.closest.proofs.Traces.Traces.{traces_way}
 use Rattle.closest_state.specs.Program.{own_table, answer_after, program_of}
 
-pub program_refuses : (s : List ℕ) (x : Refusal) → sheet_check s ≡ Failed x → program_of s ≡ Refused x
+pub program_refuses : (s : List ℕ) (x : Refusal) → sheet_check s ≡ Err x → program_of s ≡ Refused x
 unfolding program_of cleared_of clear_check
 program_refuses s x e = rw e refl
 
@@ -43,21 +43,21 @@ not_found h e = true≢false (ap (λ (r : Closest). (reported_closest r).found) 
 module _ (s : List ℕ) {state : State} {n visits : ℕ} where
   counted_by : (v : ℕ → Bool) (f : Found) → Says (plan_body s) v f → (k : ℕ) (c : Check) (b : Bool) → Fails state n visits ≡ answer_closest f k c b
       → Steps (plan_body s) state.0 n
-  counted_by v f g k (Failed x) b h = absurd (not_found h refl)
-  counted_by v f g k Passed false h = absurd (not_found h refl)
-  counted_by v everywhere g k Passed true h = absurd (not_found h refl)
-  counted_by v (fails_at x) g k Passed true h =
+  counted_by v f g k (Err x) b h = absurd (not_found h refl)
+  counted_by v f g k (Ok tt) false h = absurd (not_found h refl)
+  counted_by v everywhere g k (Ok tt) true h = absurd (not_found h refl)
+  counted_by v (fails_at x) g k (Ok tt) true h =
       subst (λ (t : ℕ). Steps (plan_body s) t n) (sym (ap (λ (r : Closest). (reported_closest r).state) h))
       (subst (Steps (plan_body s) x.state) (sym (ap (λ (r : Closest). (reported_closest r).steps) h)) g.0)
 
   -- of a state that the program finds
   module _ (h : Fails state n visits ≡ program_of s) where
-    pub found_accepted : sheet_check s ≡ Passed
+    pub found_accepted : sheet_check s ≡ Ok tt
     found_accepted = go (sheet_check s) refl
       where
-        go : (c : Check) → sheet_check s ≡ c → sheet_check s ≡ Passed
-        go Passed e = e
-        go (Failed x) e = absurd (not_found (h ∙ program_refuses s x e) refl)
+        go : (c : Check) → sheet_check s ≡ c → sheet_check s ≡ Ok tt
+        go (Ok tt) e = e
+        go (Err x) e = absurd (not_found (h ∙ program_refuses s x e) refl)
 
     counted_on : (u : List ℕ) → Fails state n visits ≡ closest_of s u → Steps (plan_body s) state.0 n
     unfolding closest_of

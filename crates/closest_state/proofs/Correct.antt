@@ -11,8 +11,8 @@ use Rattle.sheet.specs.Contents.{plan_body, actions_body, rule_body}
 use Rattle.sheet.specs.Plan.{state_count}
 use Rattle.sheet.specs.Reading.{sheet_check}
 use Rattle.sheet.specs.WellFormed.{WellFormedBodies}
-use Rattle.sheet.specs.declared.Check.{Check}
-use Rattle.sheet.specs.declared.Check.TheVariants.{Passed, Failed}
+use Rattle.std.specs.Prelude.{Err, Ok}
+use Rattle.sheet.specs.Refusals.{Check}
 use Rattle.sheet.specs.declared.Refusal.TheVariants.{Loop}
 use Rattle.sheet.proofs.Acceptance.Numbers.{low_refusal}
 use Rattle.sheet.proofs.Acceptance.Parts.{bodies_kept}
@@ -51,7 +51,7 @@ own_table_lem : length own_table ≡ largest_table
 unfolding own_table
 own_table_lem = length-replicate {A = ℕ} largest_table 0
 
-module _ (s : List ℕ) (accepted : sheet_check s ≡ Passed) where
+module _ (s : List ℕ) (accepted : sheet_check s ≡ Ok tt) where
   abbrev plan : List ℕ
   plan = plan_body s
 
@@ -141,8 +141,8 @@ pub program_correct : ProgramCorrect
 program_correct s = go (sheet_check s) refl
   where
     go : (c : Check) → sheet_check s ≡ c → RightAnswer s (program_of s)
-    go Passed e = right_accepted s e (loop_free (plan_body s) 0) refl
-    go (Failed x) e = subst (RightAnswer s) (sym (program_refuses s x e)) (RightAnswer.unreadable e)
+    go (Ok tt) e = right_accepted s e (loop_free (plan_body s) 0) refl
+    go (Err x) e = subst (RightAnswer s) (sym (program_refuses s x e)) (RightAnswer.unreadable e)
 
 pub program_refusals : ProgramRefusals
 program_refusals s = go (program_correct s)

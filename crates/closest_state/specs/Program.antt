@@ -1,10 +1,9 @@
 -- The program: it reads a sheet from standard input, clears a table, looks for the closest state that breaks the rule, and prints the text
 -- of the answer. Its answer and its text for every list of bytes.
-use Rattle.std.specs.Prelude.{ℕ, ◌≤◌, ◌≡◌, List, length, replicate}
+use Rattle.std.specs.Prelude.{ℕ, ◌≤◌, ◌≡◌, List, length, replicate, Err}
 use Rattle.text.specs.RefusalLine.{refusal_line}
 use Rattle.sheet.specs.Reading.{sheet_check}
 use Rattle.sheet.specs.Refusals.{number_of, place_of}
-use Rattle.sheet.specs.declared.Check.TheVariants.{Failed}
 use Rattle.sheet.specs.declared.Refusal.{Refusal}
 use Rattle.judge.specs.Clearing.{cleared_of, table_cleared}
 use Rattle.judge.specs.LargestTable.{largest_table}
@@ -34,7 +33,7 @@ program_text s = text_of s (program_of s)
 
 -- a sheet that the reader turns down has the line of that refusal (`text_refuses` of proofs/Texts.antt)
 abbrev pub RefusedAlike : Type 0
-RefusedAlike = (s : List ℕ) (x : Refusal) → sheet_check s ≡ Failed x → program_text s ≡ refusal_line (number_of x) (place_of x)
+RefusedAlike = (s : List ℕ) (x : Refusal) → sheet_check s ≡ Err x → program_text s ≡ refusal_line (number_of x) (place_of x)
 
 -- no text is longer than the program's buffer (`every_text_fits` of proofs/Texts.antt)
 abbrev pub EveryTextFits : Type 0

@@ -1,8 +1,7 @@
 -- The program is right about every list of bytes, by Table 1. Shown by program_correct and program_refusals of proofs/Correct.antt.
-use Rattle.std.specs.Prelude.{ℕ, ◌≤◌, ◌≡◌, List, ◌⊎◌, length}
+use Rattle.std.specs.Prelude.{ℕ, ◌≤◌, ◌≡◌, List, ◌⊎◌, length, Err, Ok}
 use Rattle.sheet.specs.Contents.{plan_body}
 use Rattle.sheet.specs.Reading.{sheet_check}
-use Rattle.sheet.specs.declared.Check.TheVariants.{Passed, Failed}
 use Rattle.sheet.specs.declared.Refusal.{Refusal}
 use Rattle.sheet.specs.declared.Refusal.TheVariants.{Loop}
 use Rattle.sheet.specs.declared.State.{State}
@@ -21,15 +20,15 @@ use Rattle.closest_state.specs.Program.{own_table, program_of}
 
 -- an accepted sheet, and no loop can be reached from state 0
 pub record Judgeable (s : List ℕ) : Type 0 where
-  pub accepted : sheet_check s ≡ Passed
+  pub accepted : sheet_check s ≡ Ok tt
   pub no_loop : LoopReachable (successors (plan_body s)) 0 → ⊥
 
 -- the right answer to a sheet: for every list of bytes one of four cases, which exclude one another
 pub data RightAnswer (s : List ℕ) : Closest → Type 0 where
   -- document 01: "clearing 1 to 10"
-  unreadable : {x : Refusal} → sheet_check s ≡ Failed x → RightAnswer s (Refused x)
+  unreadable : {x : Refusal} → sheet_check s ≡ Err x → RightAnswer s (Refused x)
   -- "Refusals go as for a query of state 0", and document 02 (b): "12 exactly when a loop can be reached from the queried state"
-  loops : sheet_check s ≡ Passed → LoopReachable (successors (plan_body s)) 0 → RightAnswer s (Refused Loop)
+  loops : sheet_check s ≡ Ok tt → LoopReachable (successors (plan_body s)) 0 → RightAnswer s (Refused Loop)
   -- ""holds everywhere" comes exactly when no reachable state breaks it"; the visits are those of the search
   holds_everywhere :
       {visits : ℕ} {left : List ℕ} → Judgeable s → ((t : ℕ) → Reachable (successors (plan_body s)) 0 t → Verdict s t)

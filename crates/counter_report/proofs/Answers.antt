@@ -13,7 +13,7 @@ use Rattle.sheet.specs.Refusals.{number_of, place_of}
 use Rattle.sheet.specs.Reading.{sheet_check}
 use Rattle.sheet.specs.declared.Refusal.{Refusal}
 use Rattle.sheet.specs.declared.Refusal.TheVariants.{TooShort}
-use Rattle.sheet.specs.declared.Check.TheVariants.{Passed, Failed}
+use Rattle.std.specs.Prelude.{Err, Ok}
 use Rattle.judge.specs.Cells.{table_bytes}
 use Rattle.judge.specs.Clearing.{clear_check}
 use Rattle.judge.specs.LargestTable.{largest_table}
@@ -38,11 +38,11 @@ module _ (s states : List ℕ) where
   report_many h = rw (lt-leb (length states) most_queries h)
 
   module _ (few : length states ≤ most_queries) where
-    pub report_refused : {x : Refusal} → sheet_check s ≡ Failed x → report_on s states ≡ Refused x
+    pub report_refused : {x : Refusal} → sheet_check s ≡ Err x → report_on s states ≡ Refused x
     unfolding report_of report_check clear_check
     report_refused e = rw (le-leb (length states) most_queries few, e)
 
-    pub report_written : sheet_check s ≡ Passed → report_on s states ≡ Wrote (length (report_text s states own_table))
+    pub report_written : sheet_check s ≡ Ok tt → report_on s states ≡ Wrote (length (report_text s states own_table))
     unfolding report_of report_check clear_check
     report_written e =
         rw (
@@ -57,19 +57,19 @@ module _ (s states : List ℕ) where
   text_of_lem e = ap (printed (report_text s states own_table)) e
 
   -- of a sheet that is not accepted the states count by their number alone
-  pub text_refused : (x : Refusal) → sheet_check s ≡ Failed x
+  pub text_refused : (x : Refusal) → sheet_check s ≡ Err x
       → text_on s states ≡ pick (leb (length states) most_queries) (refusal_line (number_of x) (place_of x)) (refusal_line 36 0)
   text_refused x e = elim (dec_le (length states) most_queries) [
     | yes h ↦ rw (le-leb (length states) most_queries h) (text_of_lem (report_refused h e))
     | no h ↦ rw (lt-leb (length states) most_queries (omega arith)) (text_of_lem (report_many (omega arith)))
   ]
 
-pub text_alike : (s states other : List ℕ) (x : Refusal) → sheet_check s ≡ Failed x → length states ≡ length other → text_on s states ≡ text_on s other
+pub text_alike : (s states other : List ℕ) (x : Refusal) → sheet_check s ≡ Err x → length states ≡ length other → text_on s states ≡ text_on s other
 text_alike s states other x e l =
     text_refused s states x e
     ∙ ap (λ (n : ℕ). pick (leb n most_queries) (refusal_line (number_of x) (place_of x)) (refusal_line 36 0)) l
     ∙ sym (text_refused s other x e)
 
-pub empty_sheet : sheet_check [] ≡ Failed TooShort
+pub empty_sheet : sheet_check [] ≡ Err TooShort
 unfolding sheet_check
 empty_sheet = refl

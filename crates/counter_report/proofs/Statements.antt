@@ -11,8 +11,8 @@ use Rattle.text.proofs.Placing.{puts_taken}
 use Rattle.sheet.specs.Reading.{sheet_check}
 use Rattle.sheet.specs.RunningCalls.{AllBytes}
 use Rattle.sheet.specs.declared.Refusal.TheVariants.{TooShort}
-use Rattle.sheet.specs.declared.Check.{Check}
-use Rattle.sheet.specs.declared.Check.TheVariants.{Passed, Failed}
+use Rattle.std.specs.Prelude.{Err, Ok}
+use Rattle.sheet.specs.Refusals.{Check}
 use Rattle.sheet.proofs.Acceptance.Numbers.{low_refusal}
 use Rattle.sheet.proofs.Limits.ByteLists.{bytes_nil, bytes_cons}
 use Rattle.calculus.specs.KeySheet.{K}
@@ -33,7 +33,7 @@ use Rattle.counter_report.proofs.Texts.{written_puts}
 use Rattle.counter_report.proofs.Cutting.{many_text}
 
 -- the report on an accepted sheet
-module _ (s states : List ℕ) (few : length states ≤ most_queries) (bytes : AllBytes states) (e : sheet_check s ≡ Passed) where
+module _ (s states : List ℕ) (few : length states ≤ most_queries) (bytes : AllBytes states) (e : sheet_check s ≡ Ok tt) where
   abbrev table : List ℕ
   table = table_reported s states own_table own_output
 
@@ -68,14 +68,14 @@ module _ (file : List ℕ) where
     among = omega (arith, states_length file)
 
     right : AllBytes file → (c : Check) → sheet_check sheet ≡ c → RightText file (program_text file)
-    right bytes Passed e =
+    right bytes (Ok tt) e =
         let r = report_right sheet states among (states_bytes file bytes) e in
         subst (RightText file) (sym (text_put sheet states among (states_bytes file bytes) e (text_of states r.answers) r.text)) (RightText.reported few e r)
-    right bytes (Failed x) e = subst (RightText file) (sym (text_of_lem sheet states (report_refused sheet states among e))) (RightText.unreadable few e)
+    right bytes (Err x) e = subst (RightText file) (sym (text_of_lem sheet states (report_refused sheet states among e))) (RightText.unreadable few e)
 
     numbered : (c : Check) → sheet_check sheet ≡ c → (reported_text (report_on sheet states)).number ≤ 10
-    numbered Passed e = rw (report_written sheet states among e) (omega arith)
-    numbered (Failed x) e = rw (report_refused sheet states among e) (low_refusal sheet e)
+    numbered (Ok tt) e = rw (report_written sheet states among e) (omega arith)
+    numbered (Err x) e = rw (report_refused sheet states among e) (low_refusal sheet e)
 
 pub program_correct : ProgramCorrect
 program_correct file bytes = elim (dec_le (input_count file) most_queries) [
@@ -94,7 +94,7 @@ program_numbers file = elim (dec_le (input_count file) most_queries) [
 no_sheet : (file : List ℕ) → length file ≤ 1 + input_count file → input_sheet file ≡ []
 no_sheet file short = drop_of_length-le file {i = 1 + input_count file} short
 
-too_short : (file : List ℕ) → length file ≤ 1 + input_count file → sheet_check (input_sheet file) ≡ Failed TooShort
+too_short : (file : List ℕ) → length file ≤ 1 + input_count file → sheet_check (input_sheet file) ≡ Err TooShort
 too_short file short = ap sheet_check (no_sheet file short) ∙ empty_sheet
 
 pub ends_early : EndsEarly

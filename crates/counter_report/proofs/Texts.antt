@@ -13,8 +13,8 @@ use Rattle.text.specs.RefusalLine.{refusal_line}
 use Rattle.text.proofs.Placing.{puts_counted}
 use Rattle.text.proofs.RefusalLines.{refusal_at_start}
 use Rattle.sheet.specs.Refusals.{and_then}
-use Rattle.sheet.specs.declared.Check.{Check}
-use Rattle.sheet.specs.declared.Check.TheVariants.{Passed, Failed}
+use Rattle.std.specs.Prelude.{Err, Ok}
+use Rattle.sheet.specs.Refusals.{Check}
 use Rattle.judge.specs.Clearing.{clear_check}
 use Rattle.report.specs.Reporting.{least_output, few_queries, report_check, report_text, answer_report, report_of, leaves, output_reported, reported_text, WritesReport}
 use Rattle.report.specs.declared.Report.{Report}
@@ -26,8 +26,8 @@ use Rattle.counter_report.proofs.Answers.{own_output_lem}
 -- the output of a report that is written, for each test and each check
 written_left : (text out : List ℕ) {n : ℕ} (b : Bool) (c : Check) → answer_report (length text) b c ≡ Wrote n
     → Puts text n out (leaves (starting_with text out) out (answer_report (length text) b c))
-written_left text out true Passed e = (cc, refl)
-written_left text out true (Failed x) e = (cc, cc)
+written_left text out true (Ok tt) e = (cc, refl)
+written_left text out true (Err x) e = (cc, cc)
 written_left text out false c e = (cc, cc)
 
 -- the line of a refusal is printed of each answer that is one
@@ -37,7 +37,7 @@ refusal_printed lines TooManyQueries h = refl
 refusal_printed lines (Refused x) h = refl
 
 -- an output that is long enough is not refused; the program's own is long enough
-room_checked : (s t out : List ℕ) → least_output ≤ length out → report_check s t out ≡ and_then (clear_check s t) Passed
+room_checked : (s t out : List ℕ) → least_output ≤ length out → report_check s t out ≡ and_then (clear_check s t) (Ok tt)
 unfolding report_check
 room_checked s t out room = rw (le-leb least_output (length out) room)
 

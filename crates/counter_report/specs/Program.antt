@@ -1,12 +1,11 @@
 -- Document 02 (g): "Its program .. prints the lines or only the refusal line". What it prints for every list of bytes, and what that is by
 -- Table 1.
-use Rattle.std.specs.Prelude.{ℕ, ◌+◌, ◌<◌, ◌≤◌, ◌≡◌, List, ◌∷◌, ◌⊎◌, length, replicate}
+use Rattle.std.specs.Prelude.{ℕ, ◌+◌, ◌<◌, ◌≤◌, ◌≡◌, List, ◌∷◌, ◌⊎◌, length, replicate, Err, Ok}
 use Rattle.text.specs.RefusalLine.{refusal_line}
 use Rattle.sheet.specs.Refusals.{number_of, place_of}
 use Rattle.sheet.specs.Reading.{sheet_check}
 use Rattle.sheet.specs.RunningCalls.{AllBytes}
 use Rattle.sheet.specs.declared.Refusal.{Refusal}
-use Rattle.sheet.specs.declared.Check.TheVariants.{Passed, Failed}
 use Rattle.calculus.specs.KeySheet.{K}
 use Rattle.judge.specs.LargestTable.{largest_table}
 use Rattle.report.specs.Text.{text_of}
@@ -49,11 +48,11 @@ pub data RightText (file : List ℕ) : List ℕ → Type 0 where
   too_many : most_queries < input_count file → RightText file (refusal_line 36 0)
   -- "a number that clearing gives turns the whole report down": 1 to 10
   unreadable :
-      {x : Refusal} → input_count file ≤ most_queries → sheet_check (input_sheet file) ≡ Failed x
+      {x : Refusal} → input_count file ≤ most_queries → sheet_check (input_sheet file) ≡ Err x
       → RightText file (refusal_line (number_of x) (place_of x))
   -- the lines of a list of queries that is right by the rows and Table 1, and of its total (specs/ReportCorrect.antt of the report)
   reported :
-      {n : ℕ} {left output : List ℕ} → input_count file ≤ most_queries → sheet_check (input_sheet file) ≡ Passed
+      {n : ℕ} {left output : List ℕ} → input_count file ≤ most_queries → sheet_check (input_sheet file) ≡ Ok tt
       → (right : ReportCorrect (input_sheet file) (input_states file) own_table own_output n left output)
       → RightText file (text_of (input_states file) right.answers)
 

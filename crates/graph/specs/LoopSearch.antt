@@ -1,13 +1,12 @@
 -- Whether a loop can be reached from a state of a plan: the answer and what it reports, for every list of bytes and every state.
-use Rattle.std.specs.Prelude.{ℕ, ◌<◌, ◌≡◌, ◌↔◌, Bool, true, false, List, ltb}
+use Rattle.std.specs.Prelude.{ℕ, ◌<◌, ◌≡◌, ◌↔◌, Bool, true, false, List, ltb, Err, Ok}
 use Rattle.sheet.specs.Bytes.{pick}
 use Rattle.sheet.specs.Plan.{state_count}
 use Rattle.sheet.specs.Reading.{plan_check}
 use Rattle.sheet.specs.WellFormed.{WellFormedPlan}
 use Rattle.sheet.specs.Refusals.{number_of, place_of, require, and_then}
 use Rattle.sheet.specs.declared.Refusal.TheVariants.{NoSuchState}
-use Rattle.sheet.specs.declared.Check.{Check}
-use Rattle.sheet.specs.declared.Check.TheVariants.{Passed, Failed}
+use Rattle.sheet.specs.Refusals.{Check}
 use Rattle.graph.specs.LoopTest.{loop_free}
 use Rattle.graph.specs.Loops.{LoopReachable}
 use Rattle.graph.specs.Successors.{successors}
@@ -20,8 +19,8 @@ loop_search_check p state = and_then (plan_check p) (require (ltb state (state_c
 
 -- the answer by the test for loops, or the refusal
 abbrev pub answer_loop_search : Bool → Check → LoopSearch
-answer_loop_search free Passed = pick free Free Found
-answer_loop_search free (Failed r) = Refused r
+answer_loop_search free (Ok tt) = pick free Free Found
+answer_loop_search free (Err r) = Refused r
 
 -- the answer for every plan and state
 unfoldable pub loop_search_of : List ℕ → ℕ → LoopSearch

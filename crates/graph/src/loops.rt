@@ -1,17 +1,17 @@
 // Whether a loop can be reached from a state of a plan, of any bytes.
 ghost use Rattle.std.specs.Prelude.{◌≡◌};
 ghost use Rattle.sheet.specs.Reading.{plan_check};
-ghost use Rattle.sheet.specs.declared.Check.TheVariants.{Passed};
+ghost use Rattle.std.specs.Prelude.{Ok};
 ghost use Rattle.graph.specs.LoopSearch.{loop_search_of, reported_loop_search, loop_search_report_of};
 
 use crate::searching::explore;
 use crate::{Index, LoopSearch};
 use sheet::plan::{check_plan, state_count};
-use sheet::{Check, Refusal, State};
+use sheet::{Refusal, State};
 
 // The answer for a well-formed plan.
 fn find_from(plan: &[u8], state: State) -> LoopSearch
-    requires { plan_check plan.now ≡ Passed }
+    requires { plan_check plan.now ≡ Ok tt }
     ensures value { result ≡ loop_search_of plan.now state.0 }
     ensures result_value { reported_loop_search result ≡ loop_search_report_of plan.now state.0 }
 {
@@ -32,7 +32,7 @@ pub fn find_loop(plan: &[u8], state: State) -> LoopSearch
 {
     let checked = check_plan(plan);
     match checked {
-        Check::Failed(x) => LoopSearch::Refused(x),
-        Check::Passed => find_from(plan, state),
+        Err(x) => LoopSearch::Refused(x),
+        Ok(()) => find_from(plan, state),
     }
 }

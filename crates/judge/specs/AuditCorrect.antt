@@ -1,13 +1,12 @@
 -- Document 02 (k), closed: which number each call of `audit` gives and when it says yes, exactly; what a yes means; and that each table
 -- that a list of demand 3 leaves gets one. Shown by audits_correct of proofs/Statements/AuditCorrect.antt.
-use Rattle.std.specs.Prelude.{◌≡◌, ℕ, ◌<◌, ◌≤◌, Bool, true, false, ◌≢◌, ◌↔◌, List, length}
+use Rattle.std.specs.Prelude.{◌≡◌, ℕ, ◌<◌, ◌≤◌, Bool, true, false, ◌≢◌, ◌↔◌, List, length, Err}
 use Rattle.sheet.specs.Contents.{plan_body, rule_body}
 use Rattle.sheet.specs.Refusals.{number_of, place_of}
 use Rattle.sheet.specs.Reading.{sheet_check}
 use Rattle.sheet.specs.RefusalOrder.{GivenInOrder}
 use Rattle.sheet.specs.WellFormed.{WellFormedSheet}
 use Rattle.sheet.specs.declared.Refusal.{Refusal}
-use Rattle.sheet.specs.declared.Check.TheVariants.{Failed}
 use Rattle.calculus.specs.Verdict.{Verdict}
 use Rattle.rows.specs.Tables.{byte_at, filled, known, byte_of}
 use Rattle.rows.specs.FollowsFrom.{FollowsFrom}
@@ -57,7 +56,7 @@ pub record AuditRight (s t : List ℕ) : Type 0 where
 pub record AuditAnswered (s t : List ℕ) (r : Audited) : Type 0 where
   -- the reader's refusal
   pub unreadable :
-      (x : Refusal) → sheet_check s ≡ Failed x → reported_audit r ≡ record { number = number_of x; place = place_of x; answer = false }
+      (x : Refusal) → sheet_check s ≡ Err x → reported_audit r ≡ record { number = number_of x; place = place_of x; answer = false }
   -- "They apply in rising order": 1 to 10
   pub in_order : GivenInOrder s (reported_audit r).number (reported_audit r).place
   -- "20: table buffer too short."; document 02 (f): "Number 20 now means four bytes more"

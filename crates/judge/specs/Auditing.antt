@@ -1,13 +1,12 @@
 -- Document 02 (k): the audit of a filled table, delivered by a supplier whose own program filled it. What it answers, for every list of
 -- bytes as sheet and as table; it changes nothing. The table is to the verdicts what a certificate is: it is checked, not trusted.
-use Rattle.std.specs.Prelude.{◌≡◌, ℕ, zero, suc, Bool, true, false, not, ◌&&◌, List, ◌==◌}
+use Rattle.std.specs.Prelude.{◌≡◌, ℕ, zero, suc, Bool, true, false, not, ◌&&◌, List, ◌==◌, Err, Ok}
 use Rattle.sheet.specs.Bytes.{pick, lowest}
 use Rattle.sheet.specs.Contents.{plan_body, rule_body}
 use Rattle.sheet.specs.Rule.{binder_node, below}
 use Rattle.sheet.specs.Refusals.{number_of, place_of, require, and_then}
 use Rattle.sheet.specs.declared.Refusal.TheVariants.{Loop as LoopRefusal, TableByte}
-use Rattle.sheet.specs.declared.Check.{Check}
-use Rattle.sheet.specs.declared.Check.TheVariants.{Passed, Failed}
+use Rattle.sheet.specs.Refusals.{Check}
 use Rattle.rows.specs.Tables.{byte_at, filled, known}
 use Rattle.rows.specs.FollowsFrom.{follows_from}
 use Rattle.graph.specs.LoopTest.{loop_free}
@@ -58,8 +57,8 @@ audit_right s t = count_right s t && (every_byte s (byte_marked s t) && every_by
 
 -- yes or no, or the refusal
 abbrev pub answer_audited : Bool → Check → Audited
-answer_audited right Passed = Answered right
-answer_audited right (Failed x) = Refused x
+answer_audited right (Ok tt) = Answered right
+answer_audited right (Err x) = Refused x
 
 -- the answer for every sheet and table
 unfoldable pub audited_of : List ℕ → List ℕ → Audited

@@ -1,7 +1,7 @@
 -- Document 01, "Refusal numbers": which number each call of `clear`, of `query` and of `stored_count` gives, exactly, for every list of
 -- bytes as sheet and table. "They apply in rising order": each number asks that no lower one applies. Shown by call_numbers of
 -- proofs/Statements/CallNumbers.antt.
-use Rattle.std.specs.Prelude.{◌≡◌, ℕ, ◌<◌, ◌≤◌, ◌≢◌, ◌↔◌, List, length}
+use Rattle.std.specs.Prelude.{◌≡◌, ℕ, ◌<◌, ◌≤◌, ◌≢◌, ◌↔◌, List, length, Err}
 use Rattle.sheet.specs.Contents.{plan_body}
 use Rattle.sheet.specs.Plan.{state_count}
 use Rattle.sheet.specs.Refusals.{number_of, place_of}
@@ -9,7 +9,6 @@ use Rattle.sheet.specs.Reading.{sheet_check}
 use Rattle.sheet.specs.RefusalOrder.{GivenInOrder}
 use Rattle.sheet.specs.WellFormed.{WellFormedSheet}
 use Rattle.sheet.specs.declared.Refusal.{Refusal}
-use Rattle.sheet.specs.declared.Check.TheVariants.{Failed}
 use Rattle.rows.specs.Tables.{byte_at}
 use Rattle.graph.specs.Loops.{LoopReachable}
 use Rattle.graph.specs.Successors.{successors}
@@ -25,7 +24,7 @@ use Rattle.judge.specs.declared.Counted.{Counted}
 -- "clearing 1 to 10, then 20": a call of `clear` on the sheet s and the buffer t answered r and left u
 pub record ClearNumbers (s t : List ℕ) (r : Cleared) (u : List ℕ) : Type 0 where
   -- the reader's refusal
-  pub unreadable : (x : Refusal) → sheet_check s ≡ Failed x → reported_clear r ≡ record { number = number_of x; place = place_of x }
+  pub unreadable : (x : Refusal) → sheet_check s ≡ Err x → reported_clear r ≡ record { number = number_of x; place = place_of x }
   -- "They apply in rising order": 1 to 10
   pub in_order : GivenInOrder s (reported_clear r).number (reported_clear r).place
   -- "20: table buffer too short."; document 02 (f): "Number 20 now means four bytes more"
@@ -61,7 +60,7 @@ pub record CellsRight (s : List ℕ) (state : ℕ) (t : List ℕ) : Type 0 where
 pub record QueryNumbers (s : List ℕ) (state : ℕ) (t : List ℕ) (r : Queried) : Type 0 where
   -- the reader's refusal
   pub unreadable :
-      (x : Refusal) → sheet_check s ≡ Failed x → ((reported_query r).number ≡ number_of x) × ((reported_query r).place ≡ place_of x)
+      (x : Refusal) → sheet_check s ≡ Err x → ((reported_query r).number ≡ number_of x) × ((reported_query r).place ≡ place_of x)
   -- "They apply in rising order": 1 to 10
   pub in_order : GivenInOrder s (reported_query r).number (reported_query r).place
   -- "11: queried state not below S."
@@ -83,7 +82,7 @@ pub record QueryNumbers (s : List ℕ) (state : ℕ) (t : List ℕ) (r : Queried
 -- 1 to 10, then 20, as clearing: a call of `stored_count` on the sheet s and the table t answered r
 pub record CountNumbers (s t : List ℕ) (r : Counted) : Type 0 where
   -- the reader's refusal
-  pub unreadable : (x : Refusal) → sheet_check s ≡ Failed x → reported_count r ≡ record { number = number_of x; place = place_of x; stored = 0 }
+  pub unreadable : (x : Refusal) → sheet_check s ≡ Err x → reported_count r ≡ record { number = number_of x; place = place_of x; stored = 0 }
   -- "They apply in rising order": 1 to 10
   pub in_order : GivenInOrder s (reported_count r).number (reported_count r).place
   -- "20: table buffer too short."; document 02 (f): "Number 20 now means four bytes more"

@@ -1,10 +1,9 @@
 -- Clearing: what it answers and what it leaves in the table's buffer, for every list of bytes as sheet and as buffer.
-use Rattle.std.specs.Prelude.{◌≡◌, ℕ, List, ◌++◌, length, drop, replicate, nat_le}
+use Rattle.std.specs.Prelude.{◌≡◌, ℕ, List, ◌++◌, length, drop, replicate, nat_le, Err, Ok}
 use Rattle.sheet.specs.Refusals.{number_of, place_of, require, and_then}
 use Rattle.sheet.specs.Reading.{sheet_check}
 use Rattle.sheet.specs.declared.Refusal.TheVariants.{TableShort}
-use Rattle.sheet.specs.declared.Check.{Check}
-use Rattle.sheet.specs.declared.Check.TheVariants.{Passed, Failed}
+use Rattle.sheet.specs.Refusals.{Check}
 use Rattle.judge.specs.Cells.{table_bytes}
 use Rattle.judge.specs.declared.Cleared.{Cleared}
 use Rattle.judge.specs.declared.Cleared.TheVariants.{Done, Refused}
@@ -15,8 +14,8 @@ clear_check s t = and_then (sheet_check s) (require (nat_le (table_bytes s) (len
 
 -- what clearing answers for every sheet and buffer
 abbrev pub answer_cleared : Check → Cleared
-answer_cleared Passed = Done
-answer_cleared (Failed r) = Refused r
+answer_cleared (Ok tt) = Done
+answer_cleared (Err r) = Refused r
 
 -- the answer for every sheet and buffer
 unfoldable pub cleared_of : List ℕ → List ℕ → Cleared
@@ -25,8 +24,8 @@ cleared_of s t = answer_cleared (clear_check s t)
 -- "Clearing sets them to 0", the cells and, by document 02 (f), the count after them; "bytes past them never change"; "A refused call ..
 -- changes no buffer"
 abbrev pub emptied : ℕ → List ℕ → Check → List ℕ
-emptied size t Passed = replicate size 0 ++ drop size t
-emptied size t (Failed r) = t
+emptied size t (Ok tt) = replicate size 0 ++ drop size t
+emptied size t (Err r) = t
 
 -- the buffer that clearing leaves, for every sheet and buffer
 unfoldable pub table_cleared : List ℕ → List ℕ → List ℕ

@@ -1,9 +1,8 @@
 -- Document 02 (f): "The terminal's progress bar wants one place in the table to read." The reading of the count, for every list of bytes as
 -- sheet and as table. It takes the count as it stands, whatever the cells hold, and changes nothing.
-use Rattle.std.specs.Prelude.{◌≡◌, ℕ, List}
+use Rattle.std.specs.Prelude.{◌≡◌, ℕ, List, Err, Ok}
 use Rattle.sheet.specs.Refusals.{number_of, place_of}
-use Rattle.sheet.specs.declared.Check.{Check}
-use Rattle.sheet.specs.declared.Check.TheVariants.{Passed, Failed}
+use Rattle.sheet.specs.Refusals.{Check}
 use Rattle.judge.specs.StoredCount.{stored_count}
 use Rattle.judge.specs.Clearing.{clear_check}
 use Rattle.judge.specs.declared.Counted.{Counted}
@@ -11,8 +10,8 @@ use Rattle.judge.specs.declared.Counted.TheVariants.{Stored, Refused}
 
 -- the stored count, or the refusal that clearing gives: 1 to 10, then 20
 abbrev pub answer_counted : ℕ → Check → Counted
-answer_counted n Passed = Stored n
-answer_counted n (Failed x) = Refused x
+answer_counted n (Ok tt) = Stored n
+answer_counted n (Err x) = Refused x
 
 -- the answer for every sheet and table
 unfoldable pub counted_of : List ℕ → List ℕ → Counted

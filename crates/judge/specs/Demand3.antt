@@ -1,13 +1,12 @@
 -- Demand 3: one statement about whole lists of queries. Document 01, "Lists of queries", and document 02 (b) and (f). It is said of what
 -- clearing and query are defined to answer and leave (`demand3` of proofs/Statements/Demand3.antt), and of the running calls (`delivered`
 -- of proofs/Statements/RunningCalls.antt).
-use Rattle.std.specs.Prelude.{◌≡◌, ℕ, ◌+◌, ◌*◌, ◌≤◌, Bool, true, false, ◌≢◌, ◌⊎◌, ◌↔◌, List, length}
+use Rattle.std.specs.Prelude.{◌≡◌, ℕ, ◌+◌, ◌*◌, ◌≤◌, Bool, true, false, ◌≢◌, ◌⊎◌, ◌↔◌, List, length, Ok}
 use mathlib.Core.List.{Memᴰ}
 use Rattle.sheet.specs.Contents.{plan_body, rule_body}
 use Rattle.sheet.specs.Plan.{state_count}
 use Rattle.sheet.specs.Rule.{node_count, binder_count}
 use Rattle.sheet.specs.Reading.{sheet_check}
-use Rattle.sheet.specs.declared.Check.TheVariants.{Passed}
 use Rattle.calculus.specs.Verdict.{Verdict}
 use Rattle.calculus.specs.Exchange.{exchanged}
 use Rattle.calculus.specs.GuardCheck.{guarded_rule}
@@ -42,7 +41,7 @@ NeededFor s solution states c = (state : ℕ) × Memᴰ state states × Needed (
 -- "Exchanging fixed points turns 7 into 8 or 8 into 7 in any choice of binder nodes ..; the exchanged sheet has a table of its own, just
 -- cleared for it, and gets the same list."
 pub record SameUnderExchange (s states : List ℕ) (answers : List QueryReport) (choice : ℕ → Bool) : Type 0 where
-  pub accepted : sheet_check (exchanged choice s) ≡ Passed
+  pub accepted : sheet_check (exchanged choice s) ≡ Ok tt
   -- Table 1's verdict is unchanged at every state whose queries are not refused
   pub same_verdicts : (state : ℕ) → (RefusedState s state → ⊥) → (Verdict s state ↔ Verdict (exchanged choice s) state)
   -- the same queries are refused, and the others have the same verdicts
@@ -89,7 +88,7 @@ pub record Demand3 : Type 0 where
   -- each byte of the cells is that of one cell, so as many cells are filled as of these bytes
   pub layout : TableLayout
   -- "as it does for an accepted sheet on every buffer long enough"
-  pub clears : (s t : List ℕ) → sheet_check s ≡ Passed → table_bytes s ≤ length t → JustCleared s t
+  pub clears : (s t : List ℕ) → sheet_check s ≡ Ok tt → table_bytes s ≤ length t → JustCleared s t
   -- Document 02 (b): "every accepted sheet, loops included", every table just cleared for it, every list of states
   pub lists :
       (s t states : List ℕ) → JustCleared s t
@@ -99,7 +98,7 @@ pub record Demand3 : Type 0 where
 pub record Demand3OfCalls : Type 0 where
   pub layout : TableLayout
   pub clears :
-      (s t : List ℕ) (r : Cleared) (u : List ℕ) → Clears s t r u → sheet_check s ≡ Passed → table_bytes s ≤ length t
+      (s t : List ℕ) (r : Cleared) (u : List ℕ) → Clears s t r u → sheet_check s ≡ Ok tt → table_bytes s ≤ length t
       → (reported_clear r).number ≡ 0
   pub lists :
       (s t states : List ℕ) (r : Cleared) (u : List ℕ) (answers : List QueryReport) (left : List ℕ)

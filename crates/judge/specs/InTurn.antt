@@ -1,15 +1,14 @@
 -- Queries in turn: the states of a list are queried on one table, one after the other up to the first whose verdict is false; what is
 -- refused looks at the whole list. The search of document 02 (m) rests on it. What the call answers and what it leaves in the table's
 -- buffer, for every list of bytes as sheet, as states and as buffer.
-use Rattle.std.specs.Prelude.{◌≡◌, ℕ, suc, Bool, true, false, List, [], ◌∷◌, map, length, nat_le, nat_lt}
+use Rattle.std.specs.Prelude.{◌≡◌, ℕ, suc, Bool, true, false, List, [], ◌∷◌, map, length, nat_le, nat_lt, Err, Ok}
 use Rattle.sheet.specs.Bytes.{pick}
 use Rattle.sheet.specs.Refusals.{number_of, place_of, require, and_then}
 use Rattle.sheet.specs.Contents.{plan_body, rule_body}
 use Rattle.sheet.specs.Plan.{state_count}
 use Rattle.sheet.specs.Reading.{sheet_check}
 use Rattle.sheet.specs.declared.Refusal.TheVariants.{NoSuchState, Loop as LoopRefusal, TableShort, TableByte}
-use Rattle.sheet.specs.declared.Check.{Check}
-use Rattle.sheet.specs.declared.Check.TheVariants.{Passed, Failed}
+use Rattle.sheet.specs.Refusals.{Check}
 use Rattle.graph.specs.LoopTest.{all_pass, loop_free}
 use Rattle.rows.specs.Rows.{conjunction, joined, looked, value, need}
 use Rattle.rows.specs.Tables.{Result, out, visits, count, fills, filling}
@@ -58,9 +57,9 @@ passed_before v (state ∷ states) = pick (v state) (suc (passed_before v states
 
 -- how many states come before the first whose verdict is false, and how many cells were filled; or the refusal
 abbrev pub answer_in_turn : ℕ → ℕ → Check → Bool → InTurn
-answer_in_turn passed n Passed true = Judged passed n
-answer_in_turn passed n Passed false = WrongCount
-answer_in_turn passed n (Failed x) right = Refused x
+answer_in_turn passed n (Ok tt) true = Judged passed n
+answer_in_turn passed n (Ok tt) false = WrongCount
+answer_in_turn passed n (Err x) right = Refused x
 
 -- the answer for every sheet, list of states and table
 unfoldable pub in_turn_of : List ℕ → List ℕ → List ℕ → InTurn

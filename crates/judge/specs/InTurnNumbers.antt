@@ -1,6 +1,6 @@
 -- Which number each call of `query_in_turn` gives, exactly, for every list of bytes as sheet, as states and as table. "They apply in rising
 -- order": each number asks that no lower one applies. Shown by in_turn_numbers of proofs/Statements/InTurnNumbers.antt.
-use Rattle.std.specs.Prelude.{◌≡◌, ℕ, ◌<◌, ◌≤◌, ◌≢◌, ◌↔◌, List, length}
+use Rattle.std.specs.Prelude.{◌≡◌, ℕ, ◌<◌, ◌≤◌, ◌≢◌, ◌↔◌, List, length, Err}
 use mathlib.Core.List.{Memᴰ}
 use Rattle.sheet.specs.Contents.{plan_body}
 use Rattle.sheet.specs.Plan.{state_count}
@@ -9,7 +9,6 @@ use Rattle.sheet.specs.Reading.{sheet_check}
 use Rattle.sheet.specs.RefusalOrder.{GivenInOrder}
 use Rattle.sheet.specs.WellFormed.{WellFormedSheet}
 use Rattle.sheet.specs.declared.Refusal.{Refusal}
-use Rattle.sheet.specs.declared.Check.TheVariants.{Failed}
 use Rattle.rows.specs.Tables.{byte_at}
 use Rattle.graph.specs.Loops.{LoopReachable}
 use Rattle.graph.specs.Successors.{successors}
@@ -43,7 +42,7 @@ pub record CellsRightFor (s states t : List ℕ) : Type 0 where
 pub record InTurnNumbers (s states t : List ℕ) (r : InTurn) (u : List ℕ) : Type 0 where
   -- the reader's refusal
   pub unreadable :
-      (x : Refusal) → sheet_check s ≡ Failed x → ((reported_in_turn r).number ≡ number_of x) × ((reported_in_turn r).place ≡ place_of x)
+      (x : Refusal) → sheet_check s ≡ Err x → ((reported_in_turn r).number ≡ number_of x) × ((reported_in_turn r).place ≡ place_of x)
   -- "They apply in rising order": 1 to 10
   pub in_order : GivenInOrder s (reported_in_turn r).number (reported_in_turn r).place
   -- "11: queried state not below S.": one of the list

@@ -1,7 +1,6 @@
 -- The largest table: a buffer that is long enough for the table of every accepted sheet.
-use Rattle.std.specs.Prelude.{◌≡◌, ℕ, ◌+◌, ◌*◌, ◌≤◌, List}
+use Rattle.std.specs.Prelude.{◌≡◌, ℕ, ◌+◌, ◌*◌, ◌≤◌, List, Ok}
 use Rattle.sheet.specs.Reading.{sheet_check}
-use Rattle.sheet.specs.declared.Check.TheVariants.{Passed}
 use Rattle.graph.specs.Search.{most_states}
 use Rattle.judge.specs.Cells.{cell_bytes, table_bytes_for, table_bytes}
 
@@ -23,4 +22,4 @@ largest_table = table_bytes_for most_cells
 
 -- no accepted sheet has more cells, nor a longer table (`every_table_fits` of proofs/Statements/LargestTable.antt)
 abbrev pub EveryTableFits : Type 0
-EveryTableFits = (s : List ℕ) → sheet_check s ≡ Passed → (cell_bytes s ≤ most_cells) × (table_bytes s ≤ largest_table)
+EveryTableFits = (s : List ℕ) → sheet_check s ≡ Ok tt → (cell_bytes s ≤ most_cells) × (table_bytes s ≤ largest_table)

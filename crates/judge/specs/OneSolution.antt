@@ -1,11 +1,10 @@
 -- Document 02 (b): where no loop can be reached from the queried state, "the rows of the cells it can come to have one solution". This is
 -- document 01's "On a plan without loops no chain of rows returns to its cell, so the rows have one solution", said of those cells alone.
-use Rattle.std.specs.Prelude.{◌≡◌, ℕ, ◌<◌, Bool, List}
+use Rattle.std.specs.Prelude.{◌≡◌, ℕ, ◌<◌, Bool, List, Ok}
 use mathlib.Core.List.{Memᴰ}
 use Rattle.sheet.specs.Contents.{plan_body, rule_body}
 use Rattle.sheet.specs.Plan.{state_count}
 use Rattle.sheet.specs.Reading.{sheet_check}
-use Rattle.sheet.specs.declared.Check.TheVariants.{Passed}
 use Rattle.rows.specs.Rows.{Row, Solution}
 use Rattle.rows.specs.Tables.{changed}
 use Rattle.graph.specs.Loops.{Way, Reachable, LoopReachable}
@@ -42,16 +41,16 @@ pub record OneSolution (s : List ℕ) (R : Cell → Row Cell) (Counts : Cell →
 pub record RowsHaveOneSolution : Type 0 where
   -- a query comes to (0, 0, state) first: where no loop can be reached from a state that the plan has, that is such a cell
   pub queried :
-      (s : List ℕ) → sheet_check s ≡ Passed → (state : ℕ) → state < state_count (plan_body s)
+      (s : List ℕ) → sheet_check s ≡ Ok tt → (state : ℕ) → state < state_count (plan_body s)
       → (LoopReachable (successors (plan_body s)) state → ⊥)
       → LoopFreeCell s (cell 0 0 state)
   -- the rows as written, and as any table changes them: of the cells that one cell can come to, and of all such cells together
   pub written :
-      (s : List ℕ) → sheet_check s ≡ Passed → (c : Cell) → LoopFreeCell s c
+      (s : List ℕ) → sheet_check s ≡ Ok tt → (c : Cell) → LoopFreeCell s c
       → (v : Cell → Bool) × OneSolution s (written_rows s) (ComesTo (written_rows s) c) v
   pub changed :
-      (s : List ℕ) → sheet_check s ≡ Passed → (t : List ℕ) (c : Cell) → LoopFreeCell s c
+      (s : List ℕ) → sheet_check s ≡ Ok tt → (t : List ℕ) (c : Cell) → LoopFreeCell s c
       → (v : Cell → Bool) × OneSolution s (changed_rows s t) (ComesTo (changed_rows s t) c) v
-  pub all_written : (s : List ℕ) → sheet_check s ≡ Passed → (v : Cell → Bool) × OneSolution s (written_rows s) (LoopFreeCell s) v
+  pub all_written : (s : List ℕ) → sheet_check s ≡ Ok tt → (v : Cell → Bool) × OneSolution s (written_rows s) (LoopFreeCell s) v
   pub all_changed :
-      (s : List ℕ) → sheet_check s ≡ Passed → (t : List ℕ) → (v : Cell → Bool) × OneSolution s (changed_rows s t) (LoopFreeCell s) v
+      (s : List ℕ) → sheet_check s ≡ Ok tt → (t : List ℕ) → (v : Cell → Bool) × OneSolution s (changed_rows s t) (LoopFreeCell s) v

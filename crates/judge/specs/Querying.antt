@@ -1,13 +1,12 @@
 -- A query: what it answers and what it leaves in the table's buffer, for every list of bytes as sheet and as buffer and every state.
-use Rattle.std.specs.Prelude.{◌≡◌, ℕ, ◌+◌, ◌<◌, Bool, true, false, ltb, ◌↔◌, List, length, ◌==◌, nat_le, nat_lt}
+use Rattle.std.specs.Prelude.{◌≡◌, ℕ, ◌+◌, ◌<◌, Bool, true, false, ltb, ◌↔◌, List, length, ◌==◌, nat_le, nat_lt, Err, Ok}
 use Rattle.sheet.specs.Bytes.{lowest}
 use Rattle.sheet.specs.Refusals.{number_of, place_of, require, and_then}
 use Rattle.sheet.specs.Contents.{plan_body, rule_body}
 use Rattle.sheet.specs.Plan.{state_count}
 use Rattle.sheet.specs.Reading.{sheet_check}
 use Rattle.sheet.specs.declared.Refusal.TheVariants.{NoSuchState, Loop as LoopRefusal, TableShort, TableByte}
-use Rattle.sheet.specs.declared.Check.{Check}
-use Rattle.sheet.specs.declared.Check.TheVariants.{Passed, Failed}
+use Rattle.sheet.specs.Refusals.{Check}
 use Rattle.graph.specs.Loops.{LoopReachable}
 use Rattle.graph.specs.LoopTest.{loop_free}
 use Rattle.rows.specs.Tables.{byte_at, Result, verdict, visits, table, query}
@@ -43,9 +42,9 @@ result_of s state t = result_at s (cell 0 0 state) (cells_in s t)
 
 -- "It gives the solution at (0, 0, s) .. and reports how many it filled as its visits", or its refusal: 1 to 21, then 35
 abbrev pub answer_queried : Result → Check → Bool → Queried
-answer_queried r Passed true = Judged (verdict r) (visits r)
-answer_queried r Passed false = WrongCount
-answer_queried r (Failed x) right = Refused x
+answer_queried r (Ok tt) true = Judged (verdict r) (visits r)
+answer_queried r (Ok tt) false = WrongCount
+answer_queried r (Err x) right = Refused x
 
 -- the answer for every sheet, state and table
 unfoldable pub queried_of : List ℕ → ℕ → List ℕ → Queried
@@ -54,9 +53,9 @@ queried_of s state t = answer_queried (result_of s state t) (query_check s state
 -- the cells of the result; document 02 (f): "every query adds its visits; bytes past them never change"; "A refused call .. changes no
 -- buffer"
 abbrev pub left_by : List ℕ → Result → List ℕ → Check → Bool → List ℕ
-left_by s r t Passed true = table_with s (table r) (stored_count s t + visits r) t
-left_by s r t Passed false = t
-left_by s r t (Failed x) right = t
+left_by s r t (Ok tt) true = table_with s (table r) (stored_count s t + visits r) t
+left_by s r t (Ok tt) false = t
+left_by s r t (Err x) right = t
 
 -- the table that a query leaves, for every sheet, state and table
 unfoldable pub table_queried : List ℕ → ℕ → List ℕ → List ℕ
@@ -92,4 +91,4 @@ abbrev pub TwelveExactly : Type 0
 TwelveExactly =
     (s : List ℕ) (state : ℕ) (t : List ℕ)
     → ((query_report_of s state t).number ≡ 12)
-    ↔ ((sheet_check s ≡ Passed) × (state < state_count (plan_body s)) × LoopReachable (successors (plan_body s)) state)
+    ↔ ((sheet_check s ≡ Ok tt) × (state < state_count (plan_body s)) × LoopReachable (successors (plan_body s)) state)

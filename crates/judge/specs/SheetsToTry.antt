@@ -1,8 +1,7 @@
 -- Document 01, "Sheets to try": P1 to P11, "shown together, as one conjunction over the rows and Table 1"; and a sheet for document 02 (b).
-use Rattle.std.specs.Prelude.{◌≡◌, ℕ, ◌≤◌, Bool, true, false, ◌↔◌, List, [], ◌∷◌, length}
+use Rattle.std.specs.Prelude.{◌≡◌, ℕ, ◌≤◌, Bool, true, false, ◌↔◌, List, [], ◌∷◌, length, Ok}
 use Rattle.sheet.specs.Writing.{sheet_of}
 use Rattle.sheet.specs.Reading.{sheet_check}
-use Rattle.sheet.specs.declared.Check.TheVariants.{Passed}
 use Rattle.calculus.specs.MeetingMask.{bit}
 use Rattle.calculus.specs.GuardCheck.{guarded_rule, reported_guard, Guards}
 use Rattle.calculus.specs.Verdict.{Verdict}
@@ -71,7 +70,7 @@ refused_by number = record { number = number; place = 0; verdict = false; visits
 -- `query` for the states, one after the other, after a call of `clear`, report this; and they are what the rows and Table 1 say
 -- (specs/Demand3.antt)
 pub record Asked (s : List ℕ) (size : ℕ) (states : List ℕ) (answers : List QueryReport) : Type 0 where
-  pub accepted : sheet_check s ≡ Passed
+  pub accepted : sheet_check s ≡ Ok tt
   pub table_size_holds : table_bytes s ≡ size
   pub report :
       (t : List ℕ) → size ≤ length t → (r : Cleared) (u : List ℕ) (reported : List QueryReport) (left : List ℕ)

@@ -1,7 +1,7 @@
 // The audit of a filled table: whether its count is right and its filled cells follow from one another. Nothing is changed.
 ghost use Rattle.std.specs.Prelude.{◌≡◌};
 ghost use Rattle.sheet.specs.Reading.{sheet_check};
-ghost use Rattle.sheet.specs.declared.Check.TheVariants.{Passed};
+ghost use Rattle.std.specs.Prelude.{Ok};
 ghost use Rattle.judge.specs.Auditing.{Audits};
 ghost use Rattle.judge.specs.Internal.Auditing.{AuditRequires, LongTableRequires};
 
@@ -13,9 +13,9 @@ use crate::table::{cell_bytes_prepared, number_at, table_bytes_for};
 use crate::widen::wide_u32;
 use crate::{Audited, Scanned};
 use graph::{INDEX_SIZE, Index, MOST_STATES, Starts};
+use sheet::Refusal;
 use sheet::plan::state_count;
 use sheet::reader::{check, plan_body};
-use sheet::{Check, Refusal};
 
 // The audit with all prepared: the count, then the cells.
 fn audit_prepared(
@@ -58,7 +58,7 @@ fn audit_states(sheet: &[u8], index: &mut Index, table: &[u8], cells: usize) -> 
 
 // The audit of an accepted sheet: refusal 20 first.
 fn audit_accepted(sheet: &[u8], table: &[u8]) -> Audited
-    requires { sheet_check sheet.now ≡ Passed }
+    requires { sheet_check sheet.now ≡ Ok tt }
     ensures { Audits sheet.now table.now result }
 {
     let mut index = [0; INDEX_SIZE];
@@ -76,7 +76,7 @@ pub fn audit(sheet: &[u8], table: &[u8]) -> Audited
 {
     let checked = check(sheet);
     match checked {
-        Check::Failed(x) => Audited::Refused(x),
-        Check::Passed => audit_accepted(sheet, table),
+        Err(x) => Audited::Refused(x),
+        Ok(()) => audit_accepted(sheet, table),
     }
 }

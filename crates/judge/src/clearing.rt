@@ -3,8 +3,8 @@ ghost use Rattle.judge.specs.Clearing.{Clears};
 
 use crate::Cleared;
 use crate::table::{cell_bytes, table_bytes_for, zero};
+use sheet::Refusal;
 use sheet::reader::check;
-use sheet::{Check, Refusal};
 
 // "Clearing sets them to 0; it doesn't look for loops.": the cells, and the count after them.
 pub fn clear(sheet: &[u8], table: &mut [u8]) -> Cleared
@@ -12,8 +12,8 @@ pub fn clear(sheet: &[u8], table: &mut [u8]) -> Cleared
 {
     let checked = check(sheet);
     match checked {
-        Check::Failed(x) => Cleared::Refused(x),
-        Check::Passed => {
+        Err(x) => Cleared::Refused(x),
+        Ok(()) => {
             let cells = cell_bytes(sheet);
             let size = table_bytes_for(cells);
             if table.len() < size {

@@ -3,8 +3,8 @@ ghost use Rattle.judge.specs.Counting.{ReadsCount};
 
 use crate::Counted;
 use crate::table::{cell_bytes, number_at, table_bytes_for};
+use sheet::Refusal;
 use sheet::reader::check;
-use sheet::{Check, Refusal};
 
 // The count as it stands, whatever the cells hold; nothing is changed.
 pub fn stored_count(sheet: &[u8], table: &[u8]) -> Counted
@@ -12,8 +12,8 @@ pub fn stored_count(sheet: &[u8], table: &[u8]) -> Counted
 {
     let checked = check(sheet);
     match checked {
-        Check::Failed(x) => Counted::Refused(x),
-        Check::Passed => {
+        Err(x) => Counted::Refused(x),
+        Ok(()) => {
             let cells = cell_bytes(sheet);
             if table.len() < table_bytes_for(cells) {
                 return Counted::Refused(Refusal::TableShort);

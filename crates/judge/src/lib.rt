@@ -23,7 +23,7 @@ ghost use Rattle.judge.specs.Counting.{reported_count};
 ghost use Rattle.judge.specs.Auditing.{reported_audit};
 
 use graph::MOST_STATES;
-use sheet::Refusal;
+use sheet::{Numbered, Refusal};
 
 // How many bytes of a table hold its count, after the cells.
 pub(crate) const COUNT_BYTES: usize = 4;

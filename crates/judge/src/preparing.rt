@@ -3,7 +3,7 @@ ghost use Rattle.std.specs.Prelude.{◌≡◌, ◌<◌, true, length};
 ghost use Rattle.sheet.specs.Contents.{plan_body};
 ghost use Rattle.sheet.specs.Plan.{state_count};
 ghost use Rattle.sheet.specs.Reading.{sheet_check};
-ghost use Rattle.sheet.specs.declared.Check.TheVariants.{Passed};
+ghost use Rattle.std.specs.Prelude.{Ok};
 ghost use Rattle.graph.specs.LoopTest.{loop_free};
 ghost use Rattle.graph.specs.Index.{index_size};
 ghost use Rattle.judge.specs.Internal.Index.{Prepared};
@@ -21,7 +21,7 @@ use sheet::{Action, HEAD_LENGTH, Node, State, Variable};
 
 // Where the rule lies, and how many nodes and marks it has.
 fn put_head(sheet: &[u8], index: &mut Index)
-    requires { (sheet_check sheet.now ≡ Passed) × (length index.old ≡ index_size) }
+    requires { (sheet_check sheet.now ≡ Ok tt) × (length index.old ≡ index_size) }
     ensures { Headed sheet.now index.new }
 {
     let rule = rule_body(sheet);
@@ -69,7 +69,7 @@ fn put_masks(plan: &[u8], actions: &[u8], index: &mut Index)
 
 // Whether no loop can be reached from a state of an accepted sheet; where none can, the index then holds what a query of the state works with.
 pub(crate) fn prepare(sheet: &[u8], index: &mut Index, state: State) -> bool
-    requires { (sheet_check sheet.now ≡ Passed) × (length index.old ≡ index_size) × (state.0 < state_count (plan_body sheet.now)) }
+    requires { (sheet_check sheet.now ≡ Ok tt) × (length index.old ≡ index_size) × (state.0 < state_count (plan_body sheet.now)) }
     ensures value { result ≡ loop_free (plan_body sheet.now) state.0 }
     ensures prepared { result ≡ true → Prepared sheet.now index.new state.0 }
 {
@@ -99,7 +99,7 @@ fn put_ends(rule: &[u8], index: &mut Index)
 
 // For an audit: what the index says of the rule of an accepted sheet.
 pub(crate) fn prepare_rule(sheet: &[u8], index: &mut Index)
-    requires { (sheet_check sheet.now ≡ Passed) × (length index.old ≡ index_size) }
+    requires { (sheet_check sheet.now ≡ Ok tt) × (length index.old ≡ index_size) }
     ensures { RuleTold sheet.now index.new }
 {
     let rule = rule_body(sheet);

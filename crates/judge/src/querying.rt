@@ -1,7 +1,7 @@
 // A query: the verdict of a sheet at a state, with the cells that it needs filled in a lent table.
 ghost use Rattle.std.specs.Prelude.{◌≡◌};
 ghost use Rattle.sheet.specs.Reading.{sheet_check};
-ghost use Rattle.sheet.specs.declared.Check.TheVariants.{Passed};
+ghost use Rattle.std.specs.Prelude.{Ok};
 ghost use Rattle.judge.specs.Internal.Index.{QueryRequires};
 ghost use Rattle.judge.specs.Querying.{Queries};
 ghost use Rattle.judge.specs.Internal.Judging.{TableRequires};
@@ -16,7 +16,7 @@ use crate::{Queried, Scanned};
 use graph::{INDEX_SIZE, Index};
 use sheet::plan::state_count;
 use sheet::reader::{check, plan_body};
-use sheet::{Check, Node, Refusal, State};
+use sheet::{Node, Refusal, State};
 
 // The query on a table that is not refused: the root's cell is decided, and the count grows by the visits.
 fn judge_table(
@@ -65,7 +65,7 @@ fn judge_prepared(sheet: &[u8], index: &Index, state: State, table: &mut [u8]) -
 
 // The query of an accepted sheet: refusals 11 and 12 first.
 fn judge_accepted(sheet: &[u8], state: State, table: &mut [u8]) -> Queried
-    requires { sheet_check sheet.now ≡ Passed }
+    requires { sheet_check sheet.now ≡ Ok tt }
     ensures { Queries sheet.now state.0 table.old result table.new }
 {
     if state_count(plan_body(sheet)) <= state.0 {
@@ -85,7 +85,7 @@ pub fn query(sheet: &[u8], state: State, table: &mut [u8]) -> Queried
 {
     let checked = check(sheet);
     match checked {
-        Check::Failed(x) => Queried::Refused(x),
-        Check::Passed => judge_accepted(sheet, state, table),
+        Err(x) => Queried::Refused(x),
+        Ok(()) => judge_accepted(sheet, state, table),
     }
 }

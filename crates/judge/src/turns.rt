@@ -1,7 +1,7 @@
 // Queries in turn: several states on one table, with one preparation, up to the first whose verdict is false.
 ghost use Rattle.std.specs.Prelude.{◌≡◌};
 ghost use Rattle.sheet.specs.Reading.{sheet_check};
-ghost use Rattle.sheet.specs.declared.Check.TheVariants.{Passed};
+ghost use Rattle.std.specs.Prelude.{Ok};
 ghost use Rattle.judge.specs.InTurn.{QueriesInTurn};
 ghost use Rattle.judge.specs.Internal.Turns.{MarkRequires, StatesMarked, EachPrepared, WalkRequires, WalkedInTurn, TurnsRequires};
 
@@ -15,7 +15,7 @@ use crate::{InTurn, Scanned, Walked};
 use graph::{INDEX_SIZE, Index, MOST_STATES, Starts};
 use sheet::plan::state_count;
 use sheet::reader::{check, plan_body};
-use sheet::{Check, Node, Refusal, State};
+use sheet::{Node, Refusal, State};
 
 // Whether the plan, which has so many states, has all of a list; starts then names them.
 fn mark_states(states: &[u8], count: u8, starts: &mut Starts) -> bool
@@ -99,7 +99,7 @@ fn walk_prepared(sheet: &[u8], index: &Index, states: &[u8], table: &mut [u8]) -
 
 // The queries of an accepted sheet: refusals 11 and 12 first.
 fn walk_accepted(sheet: &[u8], states: &[u8], table: &mut [u8]) -> InTurn
-    requires { sheet_check sheet.now ≡ Passed }
+    requires { sheet_check sheet.now ≡ Ok tt }
     ensures { QueriesInTurn sheet.now states.now table.old result table.new }
 {
     let mut starts = [0u8; MOST_STATES];
@@ -121,7 +121,7 @@ pub fn query_in_turn(sheet: &[u8], states: &[u8], table: &mut [u8]) -> InTurn
 {
     let checked = check(sheet);
     match checked {
-        Check::Failed(x) => InTurn::Refused(x),
-        Check::Passed => walk_accepted(sheet, states, table),
+        Err(x) => InTurn::Refused(x),
+        Ok(()) => walk_accepted(sheet, states, table),
     }
 }

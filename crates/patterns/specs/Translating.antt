@@ -1,13 +1,12 @@
 -- The call of document 02 (c): "Translate a pattern, with p the sheet's rule, into a rule body." What it answers and what it leaves in the
 -- output buffer, for every list of bytes as sheet and as pattern, and every output.
-use Rattle.std.specs.Prelude.{ℕ, ◌≡◌, Bool, ◌&&◌, List, [], ◌++◌, length, drop, leb}
+use Rattle.std.specs.Prelude.{ℕ, ◌≡◌, Bool, ◌&&◌, List, [], ◌++◌, length, drop, leb, Err, Ok}
 use Rattle.sheet.specs.Bytes.{pick}
 use Rattle.sheet.specs.Refusals.{number_of, place_of}
 use Rattle.sheet.specs.Contents.{actions_body, rule_body}
 use Rattle.sheet.specs.Actions.{entry_count}
 use Rattle.sheet.specs.Reading.{sheet_check}
-use Rattle.sheet.specs.declared.Check.{Check}
-use Rattle.sheet.specs.declared.Check.TheVariants.{Passed, Failed}
+use Rattle.sheet.specs.Refusals.{Check}
 use Rattle.sheet.specs.declared.Refusal.TheVariants.{OutputShort}
 use Rattle.calculus.specs.Trees.{Tree, tree_size, binders, encode, tree_of}
 use Rattle.patterns.specs.Patterns.{Pattern, Reading, malformed, readable, reading_of}
@@ -35,8 +34,8 @@ answer_reading s (readable every R) room = answer_tree (tree_for s every R) room
 
 -- "after the sheet's refusals"
 abbrev pub answer_sheet : List ℕ → List ℕ → Check → ℕ → Translated
-answer_sheet s pattern Passed room = answer_reading s (reading_of (entry_count (actions_body s)) pattern) room
-answer_sheet s pattern (Failed r) room = Refused r
+answer_sheet s pattern (Ok tt) room = answer_reading s (reading_of (entry_count (actions_body s)) pattern) room
+answer_sheet s pattern (Err r) room = Refused r
 
 -- what the call answers for every sheet, pattern and output of so many bytes
 unfoldable pub translated_of : List ℕ → List ℕ → ℕ → Translated

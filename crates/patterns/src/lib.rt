@@ -13,7 +13,7 @@ pub mod translating;
 ghost use Rattle.std.specs.Prelude.{◌≡◌};
 ghost use Rattle.patterns.specs.Translating.{reported_translation};
 
-use sheet::Refusal;
+use sheet::{Numbered, Refusal};
 
 // The most nodes and binders that a rule has, the bytes of the longest rule body, and those of the longest pattern that becomes one.
 const MOST_NODES: u8 = 64;

@@ -7,9 +7,9 @@ use crate::pattern_check::is_readable;
 use crate::putting::put_part;
 use crate::second_parts::note_seconds;
 use crate::{Body, LONGEST_BODY, LONGEST_PATTERN, Places, Progress, Translated};
+use sheet::Refusal;
 use sheet::actions::entry_count;
 use sheet::reader::{actions_body, check, rule_body};
-use sheet::{Check, Refusal};
 
 // Room for a place at each place of a pattern; a function, so that it is known by its length alone.
 fn no_places() -> Places
@@ -65,8 +65,8 @@ pub fn translate(sheet: &[u8], pattern: &[u8], out: &mut [u8]) -> Translated
 {
     let checked = check(sheet);
     match checked {
-        Check::Failed(x) => Translated::Refused(x),
-        Check::Passed => {
+        Err(x) => Translated::Refused(x),
+        Ok(()) => {
             if is_readable(pattern, entry_count(actions_body(sheet))) {
                 return put_body(rule_body(sheet), pattern, out);
             }

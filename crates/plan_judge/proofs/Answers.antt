@@ -14,8 +14,8 @@ use Rattle.sheet.specs.Reading.{sheet_check}
 use Rattle.sheet.specs.WellFormed.{WellFormedBodies}
 use Rattle.sheet.specs.declared.Refusal.{Refusal}
 use Rattle.sheet.specs.declared.Refusal.TheVariants.{Loop}
-use Rattle.sheet.specs.declared.Check.{Check}
-use Rattle.sheet.specs.declared.Check.TheVariants.{Passed, Failed}
+use Rattle.std.specs.Prelude.{Err, Ok}
+use Rattle.sheet.specs.Refusals.{Check}
 use Rattle.sheet.proofs.Acceptance.Numbers.{low_refusal}
 use Rattle.sheet.proofs.Acceptance.Parts.{bodies_kept}
 use Rattle.calculus.specs.Verdict.{Verdict}
@@ -43,11 +43,11 @@ use Rattle.judge.proofs.Statements.QueryCorrect.{queries_correct}
 use Rattle.plan_judge.specs.Program.{cleared_table, program_of, RightAnswer, ProgramCorrect, ProgramRefusals}
 
 -- a sheet that is not accepted, with any table
-refuses : (s u : List ℕ) (x : Refusal) → sheet_check s ≡ Failed x → queried_of s 0 u ≡ Refused x
+refuses : (s u : List ℕ) (x : Refusal) → sheet_check s ≡ Err x → queried_of s 0 u ≡ Refused x
 unfolding queried_of query_check
 refuses s u x e = rw e
 
-module _ (s : List ℕ) (accepted : sheet_check s ≡ Passed) where
+module _ (s : List ℕ) (accepted : sheet_check s ≡ Ok tt) where
   bodies : WellFormedBodies (plan_body s) (actions_body s) (rule_body s)
   bodies = bodies_kept s accepted
 
@@ -105,11 +105,11 @@ module _ (s : List ℕ) (accepted : sheet_check s ≡ Passed) where
 
 -- ---- on the table that the program's definition names
 
-pub program_refuses : (s : List ℕ) (x : Refusal) → sheet_check s ≡ Failed x → program_of s ≡ Refused x
+pub program_refuses : (s : List ℕ) (x : Refusal) → sheet_check s ≡ Err x → program_of s ≡ Refused x
 unfolding program_of
 program_refuses s x e = refuses s (cleared_table s) x e
 
-module _ (s : List ℕ) (accepted : sheet_check s ≡ Passed) where
+module _ (s : List ℕ) (accepted : sheet_check s ≡ Ok tt) where
   length_is : length (cleared_table s) ≡ table_bytes s
   length_is = length-replicate {A = ℕ} (table_bytes s) 0
 
@@ -146,8 +146,8 @@ pub program_correct : ProgramCorrect
 program_correct s = go (sheet_check s) refl
   where
     go : (c : Check) → sheet_check s ≡ c → RightAnswer s (program_of s)
-    go Passed e = subst (RightAnswer s) (sym (program_answers s e)) (program_right s e (loop_free (plan_body s) 0) refl)
-    go (Failed x) e = subst (RightAnswer s) (sym (program_refuses s x e)) (RightAnswer.unreadable e)
+    go (Ok tt) e = subst (RightAnswer s) (sym (program_answers s e)) (program_right s e (loop_free (plan_body s) 0) refl)
+    go (Err x) e = subst (RightAnswer s) (sym (program_refuses s x e)) (RightAnswer.unreadable e)
 
 pub program_refusals : ProgramRefusals
 program_refusals s = go (program_correct s)

@@ -6,7 +6,7 @@ use mathlib.Core.List.{List, [], ◌∷◌}
 use native.Mathlib.Omega.{arith}
 use lib.ListN.{length, length-replicate}
 use Rattle.sheet.specs.Reading.{sheet_check}
-use Rattle.sheet.specs.declared.Check.TheVariants.{Passed}
+use Rattle.std.specs.Prelude.{Ok}
 use Rattle.sheet.proofs.Acceptance.Numbers.{refused_number}
 use Rattle.calculus.specs.KeySheet.{K}
 use Rattle.text.specs.Decimal.{digits_of}
@@ -32,7 +32,7 @@ first : QueryReport → List QueryReport → QueryReport
 first q [] = q
 first q (x ∷ l) = x
 
-accepted : sheet_check K ≡ Passed
+accepted : sheet_check K ≡ Ok tt
 accepted = sheets_to_try.p1.accepted
 
 table_length : length (cleared_table K) ≡ table_bytes K

@@ -7,8 +7,8 @@ use lib.ListN.{length}
 use borrow.Author.Tests.{le-leb}
 use Rattle.sheet.specs.Reading.{sheet_check}
 use Rattle.sheet.specs.declared.Refusal.{Refusal}
-use Rattle.sheet.specs.declared.Check.{Check}
-use Rattle.sheet.specs.declared.Check.TheVariants.{Passed, Failed}
+use Rattle.std.specs.Prelude.{Err, Ok}
+use Rattle.sheet.specs.Refusals.{Check}
 use Rattle.judge.specs.Cells.{table_bytes}
 use Rattle.judge.specs.Clearing.{clear_check, cleared_of, table_cleared}
 use Rattle.judge.specs.LargestTable.{largest_table}
@@ -22,11 +22,11 @@ use Rattle.plan_judge.specs.Program.{program_of}
 use Rattle.plan_judge.specs.Buffers.{answer_after, clear_then_query, RoomForEverySheet}
 use Rattle.plan_judge.proofs.Answers.{answers_start, program_refuses, program_answers}
 
-refused_alike : (s t : List ℕ) (x : Refusal) → sheet_check s ≡ Failed x → clear_then_query s t ≡ queried.Refused x
+refused_alike : (s t : List ℕ) (x : Refusal) → sheet_check s ≡ Err x → clear_then_query s t ≡ queried.Refused x
 unfolding cleared_of clear_check
 refused_alike s t x e = rw e
 
-module _ (s t : List ℕ) (accepted : sheet_check s ≡ Passed) (fits : table_bytes s ≤ length t) where
+module _ (s t : List ℕ) (accepted : sheet_check s ≡ Ok tt) (fits : table_bytes s ≤ length t) where
   done : cleared_of s t ≡ cleared.Done
   unfolding cleared_of clear_check
   done = rw (accepted, le-leb (table_bytes s) (length t) fits)
@@ -41,8 +41,8 @@ pub room_for_every_sheet : RoomForEverySheet
 room_for_every_sheet s t long = go (sheet_check s) refl
   where
     go : (c : Check) → sheet_check s ≡ c → clear_then_query s t ≡ program_of s
-    go Passed e = queried_alike s t e (omega (arith, every_table_fits s e))
-    go (Failed x) e = refused_alike s t x e ∙ sym (program_refuses s x e)
+    go (Ok tt) e = queried_alike s t e (omega (arith, every_table_fits s e))
+    go (Err x) e = refused_alike s t x e ∙ sym (program_refuses s x e)
 
 -- the same, of calls that cleared t and left u
 module _ (s t : List ℕ) {u : List ℕ} (left : u ≡ table_cleared s t) (long : largest_table ≤ length t) where

@@ -1,11 +1,10 @@
 -- The program: "reads a sheet from standard input, clears, queries state 0 and prints one line". Its answer and its line, for every list
 -- of bytes, and what they are by Table 1.
-use Rattle.std.specs.Prelude.{ℕ, ◌≤◌, ◌≡◌, Bool, true, List, [], ◌∷◌, ◌⊎◌, ◌↔◌, replicate}
+use Rattle.std.specs.Prelude.{ℕ, ◌≤◌, ◌≡◌, Bool, true, List, [], ◌∷◌, ◌⊎◌, ◌↔◌, replicate, Err, Ok}
 use Rattle.sheet.specs.Contents.{plan_body}
 use Rattle.sheet.specs.Reading.{sheet_check}
 use Rattle.sheet.specs.declared.Refusal.{Refusal}
 use Rattle.sheet.specs.declared.Refusal.TheVariants.{Loop}
-use Rattle.sheet.specs.declared.Check.TheVariants.{Passed, Failed}
 use Rattle.calculus.specs.KeySheet.{K}
 use Rattle.calculus.specs.Verdict.{Verdict}
 use Rattle.graph.specs.Loops.{LoopReachable}
@@ -32,13 +31,13 @@ program_line s = line_of (program_of s)
 -- the right answer to a sheet: for every list of bytes one of three cases, which exclude one another
 pub data RightAnswer (s : List ℕ) : Queried → Type 0 where
   -- "clearing 1 to 10"
-  unreadable : {x : Refusal} → sheet_check s ≡ Failed x → RightAnswer s (Refused x)
+  unreadable : {x : Refusal} → sheet_check s ≡ Err x → RightAnswer s (Refused x)
   -- document 02 (b): "12 exactly when a loop can be reached from the queried state"
-  loops : sheet_check s ≡ Passed → LoopReachable (successors (plan_body s)) 0 → RightAnswer s (Refused Loop)
+  loops : sheet_check s ≡ Ok tt → LoopReachable (successors (plan_body s)) 0 → RightAnswer s (Refused Loop)
   -- "Table 1's verdict at s is true exactly when s is in the meaning of the rule"; "fills exactly the needed cells that were empty .. and
   -- reports how many it filled as its visits"
   judged :
-      {v : Bool} {n : ℕ} {left : List ℕ} → sheet_check s ≡ Passed → (LoopReachable (successors (plan_body s)) 0 → ⊥)
+      {v : Bool} {n : ℕ} {left : List ℕ} → sheet_check s ≡ Ok tt → (LoopReachable (successors (plan_body s)) 0 → ⊥)
       → (v ≡ true) ↔ Verdict s 0
       → QueryCorrect s 0 (cleared_table s) (record { number = 0; place = 0; verdict = v; visits = n }) left
       → RightAnswer s (Judged v n)

@@ -1,14 +1,13 @@
 -- "A run is judged as a plan that is one chain": that plan in the bytes of a sheet, with the actions and the rule of the sheet s. It is
 -- accepted, and Table 1's verdict of it at state 0 is that of the rule on the run. Shown by run_as_sheet of
 -- proofs/Statements/RunAsSheet.antt.
-use Rattle.std.specs.Prelude.{ℕ, suc, ◌≡◌, List, [], ◌∷◌, ◌↔◌, length}
+use Rattle.std.specs.Prelude.{ℕ, suc, ◌≡◌, List, [], ◌∷◌, ◌↔◌, length, Ok}
 use Rattle.sheet.specs.Contents.{plan_body, actions_body, rule_body}
 use Rattle.sheet.specs.Plan.{action_count}
 use Rattle.sheet.specs.Reading.{sheet_check}
 use Rattle.sheet.specs.TransitionSystem.{plan_of}
 use Rattle.sheet.specs.WellFormed.{WellFormedSheet}
 use Rattle.sheet.specs.Writing.{two_bytes, sheet_of}
-use Rattle.sheet.specs.declared.Check.TheVariants.{Passed}
 use Rattle.calculus.specs.Verdict.{Verdict}
 use Rattle.graph.specs.Loops.{LoopReachable}
 use Rattle.graph.specs.Successors.{successors}
@@ -29,7 +28,7 @@ chain_sheet s run = sheet_of (chain_body (action_count (plan_body s)) run) (acti
 
 -- the sheet of the chain: accepted, without loops, and judged as the run is
 pub record JudgedAsSheet (s run : List ℕ) : Type 0 where
-  pub passed : sheet_check (chain_sheet s run) ≡ Passed
+  pub passed : sheet_check (chain_sheet s run) ≡ Ok tt
   pub plan_is : plan_of (plan_body (chain_sheet s run)) ≡ chain (action_count (plan_body s)) run
   pub actions_body_same : actions_body (chain_sheet s run) ≡ actions_body s
   pub rule_body_same : rule_body (chain_sheet s run) ≡ rule_body s

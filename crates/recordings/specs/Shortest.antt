@@ -1,13 +1,12 @@
 -- Document 02 (j): "Hand back the shortest beginning, taken from either recording, on which the rule fails". What the call answers and
 -- hands back, for every sheet and every two recordings.
-use Rattle.std.specs.Prelude.{ℕ, suc, ◌≡◌, Bool, not, ◌&&◌, ◌||◌, List, length, take, eqb, leb}
+use Rattle.std.specs.Prelude.{ℕ, suc, ◌≡◌, Bool, not, ◌&&◌, ◌||◌, List, length, take, eqb, leb, Err, Ok}
 use Rattle.sheet.specs.Bytes.{byte, pick, lowest}
 use Rattle.sheet.specs.Contents.{plan_body, actions_body, rule_body}
 use Rattle.sheet.specs.Plan.{action_count}
 use Rattle.sheet.specs.Reading.{sheet_check}
 use Rattle.sheet.specs.Refusals.{number_of, place_of}
-use Rattle.sheet.specs.declared.Check.{Check}
-use Rattle.sheet.specs.declared.Check.TheVariants.{Passed, Failed}
+use Rattle.sheet.specs.Refusals.{Check}
 use Rattle.calculus.specs.Decode.{formula}
 use Rattle.calculus.specs.Eval.{eval}
 use Rattle.calculus.specs.Verdict.{empty_context}
@@ -72,8 +71,8 @@ answer_accepted s first second = answer_runs (runs_short first second) (actions_
 
 -- "after 1 to 10"
 abbrev pub answer_sheet : Check → Answer → Answer
-answer_sheet Passed next = next
-answer_sheet (Failed x) next = Refused x
+answer_sheet (Ok tt) next = next
+answer_sheet (Err x) next = Refused x
 
 -- the answer for every sheet and every two recordings
 unfoldable pub shortest_of : List ℕ → List ℕ → List ℕ → Answer

@@ -11,7 +11,7 @@ pub mod searching;
 ghost use Rattle.std.specs.Prelude.{◌≡◌};
 ghost use Rattle.recordings.specs.Shortest.{reported_shortest};
 
-use sheet::Refusal;
+use sheet::{Numbered, Refusal};
 
 // Which recording the shortest beginning on which the rule fails is of, and how many actions it has; or that there is none; or why the call was turned
 // down.

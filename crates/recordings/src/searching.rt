@@ -2,7 +2,7 @@
 // the second's.
 ghost use Rattle.std.specs.Prelude.{◌≡◌, take};
 ghost use Rattle.sheet.specs.Reading.{sheet_check};
-ghost use Rattle.sheet.specs.declared.Check.TheVariants.{Passed};
+ghost use Rattle.std.specs.Prelude.{Ok};
 ghost use Rattle.recordings.specs.Runs.{WellFormedRun};
 ghost use Rattle.recordings.specs.Shortest.{actions_below, answer_found, answer_accepted, shortest_of, part_for, taken_from, HandsBack};
 ghost use Rattle.recordings.specs.Internal.Chains.{Judgeable};
@@ -10,7 +10,6 @@ ghost use Rattle.recordings.specs.Internal.Chains.{Judgeable};
 use crate::chains::{CHAIN_ROOM, MOST_ACTIONS, put_chain};
 use crate::judging::fails_at;
 use crate::{Answer, Shortest};
-use sheet::Check;
 use sheet::plan::action_count;
 use sheet::reader::{check, plan_body};
 
@@ -49,7 +48,7 @@ fn search(sheet: &[u8], first: &[u8], chain1: &[u8], second: &[u8], chain2: &[u8
 
 // The answer for two recordings that are not refused.
 fn search_recorded(sheet: &[u8], first: &[u8], second: &[u8]) -> Answer
-    requires sheet_value { sheet_check sheet.now ≡ Passed }
+    requires sheet_value { sheet_check sheet.now ≡ Ok tt }
     requires well_formed_run { WellFormedRun sheet.now first.now × WellFormedRun sheet.now second.now }
     ensures { result ≡ answer_found sheet.now first.now second.now }
 {
@@ -62,7 +61,7 @@ fn search_recorded(sheet: &[u8], first: &[u8], second: &[u8]) -> Answer
 
 // The answer for an accepted sheet.
 fn search_accepted(sheet: &[u8], first: &[u8], second: &[u8]) -> Answer
-    requires { sheet_check sheet.now ≡ Passed }
+    requires { sheet_check sheet.now ≡ Ok tt }
     ensures { result ≡ answer_accepted sheet.now first.now second.now }
 {
     if MOST_ACTIONS < first.len() {
@@ -87,8 +86,8 @@ fn find(sheet: &[u8], first: &[u8], second: &[u8]) -> Answer
 {
     let checked = check(sheet);
     match checked {
-        Check::Failed(x) => Answer::Refused(x),
-        Check::Passed => search_accepted(sheet, first, second),
+        Err(x) => Answer::Refused(x),
+        Ok(()) => search_accepted(sheet, first, second),
     }
 }
 

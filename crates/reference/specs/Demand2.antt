@@ -1,6 +1,6 @@
 -- Demand 2: document 01's "Reference judge", of every call of `reference`, and that sheet and bodies turn into each other without change.
 -- It is shown by demand2 of proofs/Answers/Demand2.antt.
-use Rattle.std.specs.Prelude.{ℕ, ◌<◌, ◌≤◌, ◌≡◌, List, ◌↔◌, ◌≢◌}
+use Rattle.std.specs.Prelude.{ℕ, ◌<◌, ◌≤◌, ◌≡◌, List, ◌↔◌, ◌≢◌, Err, Ok}
 use Rattle.sheet.specs.Contents.{plan_body}
 use Rattle.sheet.specs.Plan.{state_count}
 use Rattle.sheet.specs.Reading.{sheet_check}
@@ -8,7 +8,6 @@ use Rattle.sheet.specs.Refusals.{number_of, place_of}
 use Rattle.sheet.specs.RefusalOrder.{GivenInOrder}
 use Rattle.sheet.specs.WellFormed.{WellFormedSheet}
 use Rattle.sheet.specs.RoundTrip.{RoundTrip}
-use Rattle.sheet.specs.declared.Check.TheVariants.{Passed, Failed}
 use Rattle.sheet.specs.declared.Refusal.{Refusal}
 use Rattle.reference.specs.Reference.{meaning_word, ReferenceReport, reported_reference, ByTable1, References}
 use Rattle.reference.specs.declared.Reference.{Reference}
@@ -16,9 +15,9 @@ use Rattle.reference.specs.declared.Reference.{Reference}
 -- What the call reports, by what the sheet is: "An accepted call gives number 0 and place 0", with the word; "13: S over 64 (reference
 -- only)"; else the reader's number and place. "Other places are 0. A refused call gives .. word .. 0".
 pub record ReportedBySheet (s : List ℕ) (a : ReferenceReport) : Type 0 where
-  pub accepted : sheet_check s ≡ Passed → state_count (plan_body s) ≤ 64 → a ≡ record { number = 0; place = 0; word = meaning_word s }
-  pub large : sheet_check s ≡ Passed → 64 < state_count (plan_body s) → a ≡ record { number = 13; place = 0; word = 0 }
-  pub refused : (x : Refusal) → sheet_check s ≡ Failed x → a ≡ record { number = number_of x; place = place_of x; word = 0 }
+  pub accepted : sheet_check s ≡ Ok tt → state_count (plan_body s) ≤ 64 → a ≡ record { number = 0; place = 0; word = meaning_word s }
+  pub large : sheet_check s ≡ Ok tt → 64 < state_count (plan_body s) → a ≡ record { number = 13; place = 0; word = 0 }
+  pub refused : (x : Refusal) → sheet_check s ≡ Err x → a ≡ record { number = number_of x; place = place_of x; word = 0 }
   -- 0 and 13, exactly
   pub zero : (a.number ≡ 0) ↔ (WellFormedSheet s × (state_count (plan_body s) ≤ 64))
   pub thirteen : (a.number ≡ 13) ↔ (WellFormedSheet s × (64 < state_count (plan_body s)))

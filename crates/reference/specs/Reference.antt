@@ -1,13 +1,12 @@
 -- Document 01, "Reference judge": "It takes a sheet and gives a 64-bit word: bit s is set exactly when state s is in the meaning of the
 -- rule by Table 1 .. Bits from S up are 0. Loops are allowed. It may be slow; it ends."
-use Rattle.std.specs.Prelude.{ℕ, zero, suc, ◌+◌, ◌^◌, ◌<◌, ◌≤◌, ◌≡◌, Bool, true, List, ◌↔◌, ltb}
+use Rattle.std.specs.Prelude.{ℕ, zero, suc, ◌+◌, ◌^◌, ◌<◌, ◌≤◌, ◌≡◌, Bool, true, List, ◌↔◌, ltb, Err, Ok}
 use Rattle.sheet.specs.Bytes.{pick}
 use Rattle.sheet.specs.Refusals.{number_of, place_of}
 use Rattle.sheet.specs.Contents.{plan_body, actions_body, rule_body}
 use Rattle.sheet.specs.Plan.{state_count}
 use Rattle.sheet.specs.Reading.{sheet_check}
-use Rattle.sheet.specs.declared.Check.{Check}
-use Rattle.sheet.specs.declared.Check.TheVariants.{Passed, Failed}
+use Rattle.sheet.specs.Refusals.{Check}
 use Rattle.sheet.specs.declared.Refusal.{Refusal}
 use Rattle.sheet.specs.declared.Refusal.TheVariants.{TooManyStates}
 use Rattle.sheet.specs.TransitionSystem.{plan_of}
@@ -34,8 +33,8 @@ meaning_word s = word_up_to (state_count (plan_body s)) (in_meaning s)
 
 -- "the reference 1 to 10, then 13"; "13: S over 64 (reference only)"
 abbrev pub answer_reference : List ℕ → Check → Reference
-answer_reference s Passed = pick (ltb 64 (state_count (plan_body s))) (Refused TooManyStates) (Word (meaning_word s))
-answer_reference s (Failed r) = Refused r
+answer_reference s (Ok tt) = pick (ltb 64 (state_count (plan_body s))) (Refused TooManyStates) (Word (meaning_word s))
+answer_reference s (Err r) = Refused r
 
 -- the answer for every list of bytes
 unfoldable pub reference_of : List ℕ → Reference
@@ -66,9 +65,9 @@ pub record MeaningWord (s : List ℕ) (r : Reference) : Type 0 where
 
 -- for every list of bytes: an accepted sheet of at most 64 states has such an answer, any other its refusal
 pub record ByTable1 (s : List ℕ) (r : Reference) : Type 0 where
-  pub accepted : sheet_check s ≡ Passed → state_count (plan_body s) ≤ 64 → MeaningWord s r
-  pub large : sheet_check s ≡ Passed → 64 < state_count (plan_body s) → r ≡ Refused TooManyStates
-  pub refused : (x : Refusal) → sheet_check s ≡ Failed x → r ≡ Refused x
+  pub accepted : sheet_check s ≡ Ok tt → state_count (plan_body s) ≤ 64 → MeaningWord s r
+  pub large : sheet_check s ≡ Ok tt → 64 < state_count (plan_body s) → r ≡ Refused TooManyStates
+  pub refused : (x : Refusal) → sheet_check s ≡ Err x → r ≡ Refused x
 
 -- `reference` on the sheet s answered r: the clauses of its contract. That such an answer is right by Table 1 is demand 2.
 abbrev pub References : List ℕ → Reference → Type 0

@@ -6,7 +6,7 @@ use crate::sets::{all, restart};
 use crate::table1::{evaluate, meetings};
 use sheet::plan::{action_count, state_count};
 use sheet::reader::{actions_body, check, plan_body, rule_body};
-use sheet::{Check, Node, Refusal};
+use sheet::{Node, Refusal};
 
 // Bit s is set exactly when state s is in the meaning of the rule.
 pub fn reference(sheet: &[u8]) -> Reference
@@ -14,8 +14,8 @@ pub fn reference(sheet: &[u8]) -> Reference
 {
     let checked = check(sheet);
     match checked {
-        Check::Failed(x) => Reference::Refused(x),
-        Check::Passed => {
+        Err(x) => Reference::Refused(x),
+        Ok(()) => {
             let plan = plan_body(sheet);
             let states = state_count(plan);
             if 64 < states {

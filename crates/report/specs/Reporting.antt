@@ -1,12 +1,11 @@
 -- Document 02 (g): a report, what it answers and what it leaves in both buffers, for every list of bytes as sheet, states, table and
 -- output. It says all of it by the judge's definitions of clearing and query.
-use Rattle.std.specs.Prelude.{ℕ, ◌≡◌, Bool, true, false, List, length, leb}
+use Rattle.std.specs.Prelude.{ℕ, ◌≡◌, Bool, true, false, List, length, leb, Err, Ok}
 use Rattle.text.specs.Placing.{starting_with}
 use Rattle.sheet.specs.Refusals.{number_of, place_of, require, and_then}
 use Rattle.sheet.specs.RunningCalls.{AllBytes}
 use Rattle.sheet.specs.declared.Refusal.TheVariants.{OutputShort}
-use Rattle.sheet.specs.declared.Check.{Check}
-use Rattle.sheet.specs.declared.Check.TheVariants.{Passed, Failed}
+use Rattle.sheet.specs.Refusals.{Check}
 use Rattle.judge.specs.Clearing.{clear_check, table_cleared}
 use Rattle.judge.specs.Querying.{QueryReport}
 use Rattle.judge.specs.Lists.{reports, table_after}
@@ -44,8 +43,8 @@ report_text s states t = text_of states (answers_of s states t)
 
 -- the length of the text, or the refusal
 abbrev pub answer_report : ℕ → Bool → Check → Report
-answer_report n true Passed = Wrote n
-answer_report n true (Failed x) = Refused x
+answer_report n true (Ok tt) = Wrote n
+answer_report n true (Err x) = Refused x
 answer_report n false check = TooManyQueries
 
 -- the answer for every sheet, list of states, table and output

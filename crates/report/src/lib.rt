@@ -8,7 +8,7 @@ pub mod reporting;
 ghost use Rattle.std.specs.Prelude.{◌≡◌};
 ghost use Rattle.report.specs.Reporting.{reported_text};
 
-use sheet::Refusal;
+use sheet::{Numbered, Refusal};
 
 // The most queries of a report.
 pub const MOST_QUERIES: usize = 64;

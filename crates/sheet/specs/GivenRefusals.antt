@@ -1,6 +1,6 @@
 -- Which refusals the checks of a sheet and of three bodies give, and at which places; when they give which is in specs/RefusalOrder.antt.
 -- Shown by given_refusals of proofs/Acceptance/Numbers.antt.
-use Rattle.std.specs.Prelude.{ℕ, ◌<◌, ◌≤◌, ◌≡◌, Bool, true, false, List, ◌⊎◌, ◌≢◌}
+use Rattle.std.specs.Prelude.{ℕ, ◌<◌, ◌≤◌, ◌≡◌, Bool, true, false, List, ◌⊎◌, ◌≢◌, Err}
 use Rattle.sheet.specs.Contents.{plan_body, actions_body, rule_body}
 use Rattle.sheet.specs.Plan.{action_count, transition_count, transition_faulty}
 use Rattle.sheet.specs.Actions.{entry_count, entry_faulty}
@@ -10,7 +10,6 @@ use Rattle.sheet.specs.Refusals.{number_of, place_of}
 use Rattle.sheet.specs.Reading.{sheet_check}
 use Rattle.sheet.specs.Writing.{write_check}
 use Rattle.sheet.specs.declared.Refusal.{Refusal}
-use Rattle.sheet.specs.declared.Check.TheVariants.{Failed}
 
 -- of the numbers below count, n is the lowest at which the test holds
 pub record Lowest (test : ℕ → Bool) (count n : ℕ) : Type 0 where
@@ -33,10 +32,10 @@ pub record Placed (p a r : List ℕ) (x : Refusal) : Type 0 where
 -- of every sheet, and of all bodies and rooms of an output
 pub record GivenRefusals : Type 0 where
   -- "Reader and guard check give 1 to 10"
-  pub numbers : (s : List ℕ) (x : Refusal) → sheet_check s ≡ Failed x → (1 ≤ number_of x) × (number_of x ≤ 10)
-  pub places : (s : List ℕ) (x : Refusal) → sheet_check s ≡ Failed x → Placed (plan_body s) (actions_body s) (rule_body s) x
+  pub numbers : (s : List ℕ) (x : Refusal) → sheet_check s ≡ Err x → (1 ≤ number_of x) × (number_of x ≤ 10)
+  pub places : (s : List ℕ) (x : Refusal) → sheet_check s ≡ Err x → Placed (plan_body s) (actions_body s) (rule_body s) x
   -- "the writer 4 to 10, then 22"
   pub writer_numbers :
-      (p a r : List ℕ) (room : ℕ) (x : Refusal) → write_check p a r room ≡ Failed x
+      (p a r : List ℕ) (room : ℕ) (x : Refusal) → write_check p a r room ≡ Err x
       → ((4 ≤ number_of x) × (number_of x ≤ 10)) ⊎ (number_of x ≡ 22)
-  pub writer_places : (p a r : List ℕ) (room : ℕ) (x : Refusal) → write_check p a r room ≡ Failed x → Placed p a r x
+  pub writer_places : (p a r : List ℕ) (room : ℕ) (x : Refusal) → write_check p a r room ≡ Err x → Placed p a r x

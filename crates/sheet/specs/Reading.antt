@@ -1,5 +1,5 @@
 -- The reader: what it answers for every list of bytes.
-use Rattle.std.specs.Prelude.{ℕ, List, length, eqb, leb}
+use Rattle.std.specs.Prelude.{ℕ, List, length, eqb, leb, Result, Err, Ok}
 use Rattle.sheet.specs.Refusals.{number_of, place_of, require, and_then}
 use Rattle.sheet.specs.Contents.{head_length, heading_right, contents_right, plan_body, actions_body, rule_body}
 use Rattle.sheet.specs.Contents.{plan_length, actions_length, rule_length, actions_offset, rule_offset}
@@ -9,10 +9,8 @@ use Rattle.sheet.specs.Rule.{rule_sized, syntax_fault, lowest_binding, node_coun
 use Rattle.sheet.specs.declared.Bodies.{Bodies}
 use Rattle.sheet.specs.declared.Refusal.TheVariants.{TooShort, Heading, Contents, PlanSize, TransitionFault}
 use Rattle.sheet.specs.declared.Refusal.TheVariants.{ActionsSize, EntryFault, RuleSize, SyntaxFault, BindingFault}
-use Rattle.sheet.specs.declared.Check.{Check}
-use Rattle.sheet.specs.declared.Check.TheVariants.{Passed, Failed}
-use Rattle.sheet.specs.declared.Read.{Read}
-use Rattle.sheet.specs.declared.Read.TheVariants.{Accepted, Refused}
+use Rattle.sheet.specs.declared.Refusal.{Refusal}
+use Rattle.sheet.specs.Refusals.{Check}
 
 -- refusals 4 and 5
 unfoldable pub plan_check : List ℕ → Check
@@ -53,12 +51,12 @@ bodies_of s = record {
 }
 
 -- "The reader gives each body's offset and length", or the refusal
-abbrev pub answer_read : Bodies → Check → Read
-answer_read b Passed = Accepted b
-answer_read b (Failed r) = Refused r
+abbrev pub answer_read : Bodies → Check → Result Bodies Refusal
+answer_read b (Ok _) = Ok b
+answer_read b (Err r) = Err r
 
 -- what the reader answers for every list of bytes
-unfoldable pub read_of : List ℕ → Read
+unfoldable pub read_of : List ℕ → Result Bodies Refusal
 read_of s = answer_read (bodies_of s) (sheet_check s)
 
 -- what the reader reports: number, place, and each body's offset and length
@@ -76,9 +74,9 @@ no_bodies = record {
 }
 
 -- "An accepted call gives number 0 and place 0."; on a refusal its number and place
-abbrev pub reported_read : Read → ReadReport
-reported_read (Accepted b) = record { number = 0; place = 0; bodies = b }
-reported_read (Refused r) = record { number = number_of r; place = place_of r; bodies = no_bodies }
+abbrev pub reported_read : (Result Bodies Refusal) → ReadReport
+reported_read (Ok b) = record { number = 0; place = 0; bodies = b }
+reported_read (Err r) = record { number = number_of r; place = place_of r; bodies = no_bodies }
 
 -- what the reader reports for every list of bytes
 abbrev pub read_report_of : List ℕ → ReadReport

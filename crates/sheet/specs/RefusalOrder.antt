@@ -1,6 +1,6 @@
 -- "Refusal numbers": which fault has which number and which place, and "They apply in rising order", of every sheet and of every three
 -- bodies. Shown by refusals_in_order of proofs/Acceptance/Order.antt.
-use Rattle.std.specs.Prelude.{ℕ, ◌<◌, ◌≤◌, ◌≡◌, false, List, ◌↔◌, length}
+use Rattle.std.specs.Prelude.{ℕ, ◌<◌, ◌≤◌, ◌≡◌, false, List, ◌↔◌, length, Result}
 use Rattle.sheet.specs.Contents.{head_length, heading_right, contents_right, plan_body, actions_body, rule_body}
 use Rattle.sheet.specs.Plan.{action_count, transition_count, plan_sized, transition_faulty}
 use Rattle.sheet.specs.Actions.{entry_count, actions_sized, entry_faulty}
@@ -11,8 +11,8 @@ use Rattle.sheet.specs.Refusals.{reported_check}
 use Rattle.sheet.specs.Reading.{sheet_check, reported_read}
 use Rattle.sheet.specs.Writing.{sheet_length, reported_write}
 use Rattle.sheet.specs.RunningCalls.{Reads, Writes}
-use Rattle.sheet.specs.declared.Read.{Read}
-use Rattle.sheet.specs.declared.Written.{Written}
+use Rattle.sheet.specs.declared.Bodies.{Bodies}
+use Rattle.sheet.specs.declared.Refusal.{Refusal}
 
 -- The bodies p, a, r have the fault of a number, at a place. "The place is the lowest faulty transition, entry or node for 5, 7, 10; for 9
 -- the first fault met in preorder .. Other places are 0."
@@ -62,11 +62,11 @@ pub record RefusalsInOrder : Type 0 where
       (s : List ℕ) (k m : ℕ) → 1 ≤ k
       → (((reported_check (sheet_check s)).number ≡ k) × ((reported_check (sheet_check s)).place ≡ m)) ↔ First (SheetFault s) k m
   pub reads :
-      (s : List ℕ) (answer : Read) → Reads s answer → (k m : ℕ) → 1 ≤ k
+      (s : List ℕ) (answer : Result Bodies Refusal) → Reads s answer → (k m : ℕ) → 1 ≤ k
       → (((reported_read answer).number ≡ k) × ((reported_read answer).place ≡ m)) ↔ First (SheetFault s) k m
   -- "the writer 4 to 10, then 22": by every call of `write`
   pub writes :
-      (p a r out : List ℕ) (answer : Written) (out' : List ℕ) → Writes p a r out answer out' → (k m : ℕ) → 1 ≤ k
+      (p a r out : List ℕ) (answer : Result ℕ Refusal) (out' : List ℕ) → Writes p a r out answer out' → (k m : ℕ) → 1 ≤ k
       → (((reported_write answer).number ≡ k) × ((reported_write answer).place ≡ m)) ↔ First (WriteFault p a r (length out)) k m
 
 -- What a call that checks a sheet first reports: of 1 to 10 the number k, at the place m, exactly where k is the lowest number of a fault

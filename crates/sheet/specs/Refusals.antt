@@ -1,12 +1,10 @@
 -- Document 01, "Refusal numbers": the number and the place of each refusal, and the order in which they apply.
-use Rattle.std.specs.Prelude.{ℕ, Bool}
+use Rattle.std.specs.Prelude.{ℕ, Bool, Result, Ok, Err}
 use Rattle.sheet.specs.Bytes.{pick}
 use Rattle.sheet.specs.declared.Refusal.{Refusal}
 use Rattle.sheet.specs.declared.Refusal.TheVariants.{TooShort, Heading, Contents, PlanSize, TransitionFault}
 use Rattle.sheet.specs.declared.Refusal.TheVariants.{ActionsSize, EntryFault, RuleSize, SyntaxFault, BindingFault}
 use Rattle.sheet.specs.declared.Refusal.TheVariants.{NoSuchState, Loop, TooManyStates, TableShort, TableByte, OutputShort}
-use Rattle.sheet.specs.declared.Check.{Check}
-use Rattle.sheet.specs.declared.Check.TheVariants.{Passed, Failed}
 
 -- the number of each refusal, "From the input" and "From the state of what is lent"; document 02 (l): those of a query turn down a call of
 -- grant too, as "the benches' own refusals"; document 02 (m): "Refusals go as for a query of state 0", find_closest
@@ -67,14 +65,23 @@ place_of TableShort = 0
 place_of TableByte = 0
 place_of OutputShort = 0
 
+-- what checking the input, or a body of it, gives: it passes, or it is turned down
+abbrev pub Check : Type 0
+Check = Result (Unit {0}) Refusal
+
 -- a test that passes, or the refusal
 abbrev pub require : Bool → Refusal → Check
-require kept r = pick kept Passed (Failed r)
+require kept r = pick kept (Ok tt) (Err r)
 
 -- "They apply in rising order": the first refusal decides
 abbrev pub and_then : Check → Check → Check
-and_then Passed next = next
-and_then (Failed r) next = Failed r
+and_then (Ok _) next = next
+and_then (Err r) next = Err r
+
+-- a number that an answer reports: "An accepted call gives number 0 and place 0."; on a refusal the error's
+abbrev pub answer_number : {T E : Type 0} → (E → ℕ) → Result T E → ℕ
+answer_number of (Ok _) = 0
+answer_number of (Err e) = of e
 
 -- what a check reports
 pub record CheckReport : Type 0 where
@@ -83,5 +90,5 @@ pub record CheckReport : Type 0 where
 
 -- "An accepted call gives number 0 and place 0."; on a refusal its number and place
 abbrev pub reported_check : Check → CheckReport
-reported_check Passed = record { number = 0; place = 0 }
-reported_check (Failed r) = record { number = number_of r; place = place_of r }
+reported_check (Ok _) = record { number = 0; place = 0 }
+reported_check (Err r) = record { number = number_of r; place = place_of r }

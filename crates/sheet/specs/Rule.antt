@@ -1,9 +1,8 @@
 -- Document 01, "Kind 3, rule": a state formula in preorder. The definitions speak of the body's bytes; entries is the
 -- number of action entries.
-use Rattle.std.specs.Prelude.{ℕ, zero, suc, ◌+◌, ◌*◌, Bool, false, not, ◌&&◌, List, length, eqb, ltb, leb}
+use Rattle.std.specs.Prelude.{ℕ, zero, suc, ◌+◌, ◌*◌, Bool, false, not, ◌&&◌, List, length, eqb, ltb, leb, Result, Ok, Err}
 use Rattle.sheet.specs.Bytes.{byte, pick, lowest}
-use Rattle.sheet.specs.declared.Extent.{Extent}
-use Rattle.sheet.specs.declared.Extent.TheVariants.{Ends, Faulty}
+use Rattle.sheet.specs.declared.Node.{Node}
 
 -- "Count N (1 byte, 1 to 64)"
 abbrev pub node_count : List ℕ → ℕ
@@ -41,24 +40,28 @@ shape_of k =
 abbrev pub child_is : List ℕ → ℕ → ℕ → Bool
 child_is r c expected = eqb c expected && ltb expected (node_count r)
 
+-- what reading the subtree of a node gives: the place after it, or the first faulty node met in it
+abbrev pub Extent : Type 0
+Extent = Result ℕ Node
+
 -- node n is faulty
 abbrev pub fault_at : ℕ → Extent
-fault_at n = Faulty (record { 0 = n })
+fault_at n = Err (record { 0 = n })
 
 -- "a second child the first node after the first child's part" (its subtree): a fault in the first child's subtree stands; else y must be
 -- the node where that subtree ended
 abbrev pub second : (ℕ → Extent) → List ℕ → ℕ → Extent → Extent
-second go r n (Faulty m) = Faulty m
-second go r n (Ends e) = pick (child_is r (node_y r n) e) (go e) (fault_at n)
+second go r n (Err m) = Err m
+second go r n (Ok e) = pick (child_is r (node_y r n) e) (go e) (fault_at n)
 
 -- The subtree of node n, where go gives the subtree of a later node: the node after it, or the first fault met in preorder. "a first or
 -- only child is the next node"; "Unused fields are 0"; the entry of a modality is below the count; "a second child's number being looked at
 -- after the first child's part"; "a missing child the fault of its parent". The x of a variable and of a binder is left to refusal 10.
 abbrev pub course : (ℕ → Extent) → ℕ → List ℕ → ℕ → Shape → Extent
-course go entries r n leaf = pick (eqb (node_x r n) 0 && eqb (node_y r n) 0) (Ends (n + 1)) (fault_at n)
+course go entries r n leaf = pick (eqb (node_x r n) 0 && eqb (node_y r n) 0) (Ok (n + 1)) (fault_at n)
 course go entries r n pair = pick (child_is r (node_x r n) (n + 1)) (second go r n (go (n + 1))) (fault_at n)
 course go entries r n modal = pick (ltb (node_x r n) entries && child_is r (node_y r n) (n + 1)) (go (n + 1)) (fault_at n)
-course go entries r n variable = pick (eqb (node_y r n) 0) (Ends (n + 1)) (fault_at n)
+course go entries r n variable = pick (eqb (node_y r n) 0) (Ok (n + 1)) (fault_at n)
 course go entries r n binder = pick (child_is r (node_y r n) (n + 1)) (go (n + 1)) (fault_at n)
 course go entries r n unknown = fault_at n
 
@@ -70,8 +73,8 @@ extent (suc depth) entries r n = course (extent depth entries r) entries r n (sh
 -- the first fault met in preorder, or N where there is none: a fault in the root's subtree; else the node where that subtree ends, which
 -- before N is "a node left over being faulty itself" ("nothing follows the root's part")
 abbrev pub first_fault : Extent → ℕ
-first_fault (Faulty m) = m.0
-first_fault (Ends e) = e
+first_fault (Err m) = m.0
+first_fault (Ok e) = e
 
 -- the place of refusal 9; N where there is none
 abbrev pub syntax_fault : ℕ → List ℕ → ℕ

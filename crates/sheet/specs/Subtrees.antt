@@ -1,10 +1,9 @@
 -- `extent` and `subtree_end` of specs/Rule.antt are computed down to a depth. What they are with no depth: the equations of document 01's
 -- courses, and the subtrees of specs/WellFormed.antt. Shown by subtrees of proofs/Nodes/Unfolding.antt and nodes_found of
 -- proofs/Nodes/Below.antt.
-use Rattle.std.specs.Prelude.{ℕ, ◌+◌, ◌<◌, ◌≤◌, ◌≡◌, true, List, ◌↔◌}
+use Rattle.std.specs.Prelude.{ℕ, ◌+◌, ◌<◌, ◌≤◌, ◌≡◌, true, List, ◌↔◌, Ok}
 use Rattle.sheet.specs.Rule.{node_count, node_kind, shape_of, course, extent, syntax_fault, binder_node, subtree_end, below}
 use Rattle.sheet.specs.WellFormed.{Subtree, Below, Binds}
-use Rattle.sheet.specs.declared.Extent.TheVariants.{Ends}
 
 -- what refusal 9 finds at node n, down to a depth
 pub record Walked (entries : ℕ) (r : List ℕ) (depth n : ℕ) : Type 0 where
@@ -14,7 +13,7 @@ pub record Walked (entries : ℕ) (r : List ℕ) (depth n : ℕ) : Type 0 where
   -- a greater depth finds nothing else
   pub deeper : (more : ℕ) → extent (depth + more) entries r n ≡ extent depth entries r n
   -- an end is found exactly where the nodes up to it are the node's subtree, and are nodes of the rule
-  pub ends : (e : ℕ) → (extent depth entries r n ≡ Ends e) ↔ (Subtree entries r n e × (e ≤ node_count r))
+  pub ends : (e : ℕ) → (extent depth entries r n ≡ Ok e) ↔ (Subtree entries r n e × (e ≤ node_count r))
 
 -- of every rule body
 pub record Subtrees : Type 0 where

@@ -1,13 +1,11 @@
 -- The writer: the sheet that three bodies make, and what the writer answers and leaves in the output buffer.
-use Rattle.std.specs.Prelude.{ℕ, ◌+◌, ◌/◌, ◌%◌, List, [], ◌∷◌, ◌++◌, length, drop, leb}
+use Rattle.std.specs.Prelude.{ℕ, ◌+◌, ◌/◌, ◌%◌, List, [], ◌∷◌, ◌++◌, length, drop, leb, Result, Err, Ok}
 use Rattle.sheet.specs.Refusals.{number_of, place_of, require, and_then}
 use Rattle.sheet.specs.Contents.{head_length}
 use Rattle.sheet.specs.Reading.{bodies_check}
 use Rattle.sheet.specs.declared.Refusal.TheVariants.{OutputShort}
-use Rattle.sheet.specs.declared.Check.{Check}
-use Rattle.sheet.specs.declared.Check.TheVariants.{Passed, Failed}
-use Rattle.sheet.specs.declared.Written.{Written}
-use Rattle.sheet.specs.declared.Written.TheVariants.{Wrote, Refused}
+use Rattle.sheet.specs.declared.Refusal.{Refusal}
+use Rattle.sheet.specs.Refusals.{Check}
 
 -- a number below 65,536 as two bytes, "the low byte first"; of a larger one its remainder by 65,536
 abbrev pub two_bytes : ℕ → List ℕ → List ℕ
@@ -35,18 +33,18 @@ unfoldable pub write_check : List ℕ → List ℕ → List ℕ → ℕ → Chec
 write_check p a r room = and_then (bodies_check p a r) (require (leb (sheet_length p a r) room) OutputShort)
 
 -- "gives the length", or the refusal
-abbrev pub answer_written : ℕ → Check → Written
-answer_written size Passed = Wrote size
-answer_written size (Failed r) = Refused r
+abbrev pub answer_written : ℕ → Check → Result ℕ Refusal
+answer_written size (Ok _) = Ok size
+answer_written size (Err r) = Err r
 
 -- what the writer answers for every three bodies and every room
-unfoldable pub written_of : List ℕ → List ℕ → List ℕ → ℕ → Written
+unfoldable pub written_of : List ℕ → List ℕ → List ℕ → ℕ → Result ℕ Refusal
 written_of p a r room = answer_written (sheet_length p a r) (write_check p a r room)
 
 -- the sheet at the front of the output, and "bytes past it are unchanged"; a refused call "changes no buffer"
 abbrev pub leaves : List ℕ → List ℕ → Check → List ℕ
-leaves sheet out Passed = sheet ++ drop (length sheet) out
-leaves sheet out (Failed r) = out
+leaves sheet out (Ok _) = sheet ++ drop (length sheet) out
+leaves sheet out (Err r) = out
 
 -- the output buffer after the call
 unfoldable pub output_after : List ℕ → List ℕ → List ℕ → List ℕ → List ℕ
@@ -59,9 +57,9 @@ pub record WriteReport : Type 0 where
   pub size : ℕ
 
 -- "An accepted call gives number 0 and place 0."; on a refusal its number and place, and "any further result number 0"
-abbrev pub reported_write : Written → WriteReport
-reported_write (Wrote n) = record { number = 0; place = 0; size = n }
-reported_write (Refused r) = record { number = number_of r; place = place_of r; size = 0 }
+abbrev pub reported_write : (Result ℕ Refusal) → WriteReport
+reported_write (Ok n) = record { number = 0; place = 0; size = n }
+reported_write (Err r) = record { number = number_of r; place = place_of r; size = 0 }
 
 -- what the writer reports for every three bodies and every output
 abbrev pub write_report_of : List ℕ → List ℕ → List ℕ → ℕ → WriteReport

@@ -5,7 +5,7 @@ ghost use Rattle.sheet.specs.Fields.{fields_at};
 ghost use Rattle.sheet.specs.Reading.{actions_check};
 
 use crate::decode::{byte_at, fields_at, narrow_at};
-use crate::{Check, Fields, Refusal};
+use crate::{Fields, Refusal};
 
 // The table's length and count are within their limits.
 fn sized(a: &[u8]) -> bool
@@ -98,17 +98,17 @@ fn lowest_faulty(actions: usize, a: &[u8]) -> usize
 }
 
 // Refusals 6 and 7.
-pub(crate) fn check_actions(actions: usize, a: &[u8]) -> Check
+pub(crate) fn check_actions(actions: usize, a: &[u8]) -> Result<(), Refusal>
     ensures { result ≡ actions_check actions a.now }
 {
     if !sized(a) {
-        return Check::Failed(Refusal::ActionsSize);
+        return Err(Refusal::ActionsSize);
     }
     let e = lowest_faulty(actions, a);
     if e == byte_at(a, 0) {
-        Check::Passed
+        Ok(())
     } else {
-        Check::Failed(Refusal::EntryFault(e as u8))
+        Err(Refusal::EntryFault(e as u8))
     }
 }
 

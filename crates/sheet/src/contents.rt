@@ -4,7 +4,7 @@ ghost use Rattle.sheet.specs.Internal.Entry.{heading_at, entry_at, entry_fits, e
 
 use crate::body_check::check_bodies;
 use crate::decode::{byte_at, narrow_at, slice_of, word_at};
-use crate::{Check, HEAD_LENGTH, LONGEST, Refusal};
+use crate::{HEAD_LENGTH, LONGEST, Refusal};
 
 // The sheet that is lent, and a place in it.
 #[derive(Clone, Copy)]
@@ -134,14 +134,20 @@ fn entries_fit(plan: Entry, actions: Entry, rule: Entry, end: usize) -> bool
 }
 
 // Refusals 2 to 10, of what was taken from the sheet: after the table of contents the bodies follow one another, to the end of the file.
-fn check_taken(heading: bool, plan: Entry, actions: Entry, rule: Entry, bodies: &[u8]) -> Check
+fn check_taken(
+    heading: bool,
+    plan: Entry,
+    actions: Entry,
+    rule: Entry,
+    bodies: &[u8],
+) -> Result<(), Refusal>
     ensures { result ≡ check_taken heading plan actions rule bodies.now }
 {
     if !heading {
-        return Check::Failed(Refusal::Heading);
+        return Err(Refusal::Heading);
     }
     if !entries_fit(plan, actions, rule, HEAD_LENGTH + bodies.len()) {
-        return Check::Failed(Refusal::Contents);
+        return Err(Refusal::Contents);
     }
     let first = wide(plan.length);
     let second = wide(actions.length);
@@ -154,7 +160,7 @@ fn check_taken(heading: bool, plan: Entry, actions: Entry, rule: Entry, bodies: 
 }
 
 // Refusals 2 to 10: the sheet is taken through the reader, front to back, two bytes of heading, three entries of five, the bodies, and then judged.
-pub(crate) fn check_in_order(sheet: &[u8]) -> Check
+pub(crate) fn check_in_order(sheet: &[u8]) -> Result<(), Refusal>
     ensures { result ≡ check_in_order sheet.now }
 {
     let front = start(sheet);

@@ -1,8 +1,8 @@
 // The sheet: a plan and a rule in one file. Reader, writer and the functions that read a sheet's fields.
 #![tactic(auto)]
 
-ghost use Rattle.std.specs.Prelude.{◌≡◌};
-ghost use Rattle.sheet.specs.Refusals.{number_of, place_of};
+ghost use Rattle.std.specs.Prelude.{◌≡◌, ℕ};
+ghost use Rattle.sheet.specs.Refusals.{number_of, place_of, answer_number};
 
 pub mod actions;
 mod body_check;
@@ -69,11 +69,26 @@ pub enum Refusal {
     OutputShort,
 }
 
-impl Refusal {
-    // The number of the refusal.
-    pub fn number(self) -> u8
-        ensures { result ≡ number_of self }
-    {
+// What became of the input of a call, as two numbers: 0 and 0 where it was accepted; else the number of the refusal, and the faulty transition, entry or
+// node, 0 where none is named.
+pub trait Numbered {
+    ghost number: { Self → ℕ };
+
+    ghost place: { Self → ℕ };
+
+    fn number(&self) -> u8
+        ensures { result ≡ number self.now };
+
+    fn place(&self) -> u16
+        ensures { result ≡ place self.now };
+}
+
+impl Numbered for Refusal {
+    ghost number = { number_of };
+
+    ghost place = { place_of };
+
+    fn number(&self) -> u8 {
         match self {
             Refusal::TooShort => 1,
             Refusal::Heading => 2,
@@ -94,43 +109,35 @@ impl Refusal {
         }
     }
 
-    // The faulty transition, entry or node, or 0.
-    pub fn place(self) -> u16
-        ensures { result ≡ place_of self }
-    {
+    fn place(&self) -> u16 {
         match self {
-            Refusal::TransitionFault(t) => t,
-            Refusal::EntryFault(e) => e as u16,
-            Refusal::SyntaxFault(n) => n.0 as u16,
-            Refusal::BindingFault(n) => n.0 as u16,
-            Refusal::TooShort => 0,
-            Refusal::Heading => 0,
-            Refusal::Contents => 0,
-            Refusal::PlanSize => 0,
-            Refusal::ActionsSize => 0,
-            Refusal::RuleSize => 0,
-            Refusal::NoSuchState => 0,
-            Refusal::Loop => 0,
-            Refusal::TooManyStates => 0,
-            Refusal::TableShort => 0,
-            Refusal::TableByte => 0,
-            Refusal::OutputShort => 0,
+            Refusal::TransitionFault(t) => *t,
+            Refusal::EntryFault(e) => u16::from(*e),
+            Refusal::SyntaxFault(n) | Refusal::BindingFault(n) => u16::from(n.0),
+            _ => 0,
         }
     }
 }
 
-// What checking the input, or a body of it, gives.
-#[derive(Clone, Copy)]
-pub enum Check {
-    Passed,
-    Failed(Refusal),
-}
+// An accepted input has number 0 and place 0, a refused one those of the error.
+impl<T, E: Numbered> Numbered for Result<T, E> {
+    ghost number = { answer_number E.number };
 
-// The subtree of a node, in preorder: the place after it, which may be no node and so is a plain number, or the first faulty node met in it.
-#[derive(Clone, Copy)]
-pub(crate) enum Extent {
-    Ends(usize),
-    Faulty(Node),
+    ghost place = { answer_number E.place };
+
+    fn number(&self) -> u8 {
+        match self {
+            Ok(_) => 0,
+            Err(e) => e.number(),
+        }
+    }
+
+    fn place(&self) -> u16 {
+        match self {
+            Ok(_) => 0,
+            Err(e) => e.place(),
+        }
+    }
 }
 
 // Where a body lies in its sheet.
@@ -146,18 +153,4 @@ pub struct Bodies {
     pub plan: Span,
     pub actions: Span,
     pub rule: Span,
-}
-
-// What the reader answers.
-#[derive(Clone, Copy)]
-pub enum Read {
-    Accepted(Bodies),
-    Refused(Refusal),
-}
-
-// What the writer answers: the length of the sheet that it wrote.
-#[derive(Clone, Copy)]
-pub enum Written {
-    Wrote(usize),
-    Refused(Refusal),
 }

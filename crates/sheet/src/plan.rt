@@ -7,7 +7,7 @@ ghost use Rattle.sheet.specs.Reading.{plan_check};
 ghost use Rattle.sheet.specs.Refusals.{reported_check};
 
 use crate::decode::{byte_at, byte_in, field_at, narrow_at, word_at};
-use crate::{Action, Check, Refusal, State, Transition};
+use crate::{Action, Refusal, State, Transition};
 
 // The plan's length, S and T are within their limits.
 fn sized(p: &[u8]) -> bool
@@ -124,21 +124,21 @@ fn none_faulty(p: &[u8]) -> bool
 }
 
 // Refusals 4 and 5.
-pub fn check_plan(plan: &[u8]) -> Check
+pub fn check_plan(plan: &[u8]) -> Result<(), Refusal>
     ensures value { result ≡ plan_check plan.now }
     ensures result_value { reported_check result ≡ reported_check (plan_check plan.now) }
 {
     if !sized(plan) {
-        return Check::Failed(Refusal::PlanSize);
+        return Err(Refusal::PlanSize);
     }
     if none_faulty(plan) {
-        return Check::Passed;
+        return Ok(());
     }
     let i = lowest_faulty(plan);
     if i == word_at(plan, 2) {
-        Check::Passed
+        Ok(())
     } else {
-        Check::Failed(Refusal::TransitionFault(i as u16))
+        Err(Refusal::TransitionFault(i as u16))
     }
 }
 

@@ -7,7 +7,7 @@ ghost use Rattle.sheet.specs.RunningCalls.{Reads};
 
 use crate::contents::check_in_order;
 use crate::decode::{slice_of, word_at};
-use crate::{Bodies, Check, HEAD_LENGTH, Read, Refusal, Span};
+use crate::{Bodies, HEAD_LENGTH, Refusal, Span};
 
 // The bodies of an accepted sheet: from 17 on, one after another, by the lengths that the table of contents states. These do not check the sheet.
 pub fn plan_body(sheet: &[u8]) -> &[u8]
@@ -33,12 +33,12 @@ pub fn rule_body(sheet: &[u8]) -> &[u8]
 }
 
 // Refusals 1 to 10.
-pub fn check(sheet: &[u8]) -> Check
+pub fn check(sheet: &[u8]) -> Result<(), Refusal>
     ensures value { result ≡ sheet_check sheet.now }
     ensures result_value { reported_check result ≡ reported_check (sheet_check sheet.now) }
 {
     if sheet.len() < HEAD_LENGTH {
-        return Check::Failed(Refusal::TooShort);
+        return Err(Refusal::TooShort);
     }
     check_in_order(sheet)
 }
@@ -66,12 +66,12 @@ fn bodies_of(sheet: &[u8]) -> Bodies
 }
 
 // Number, place, and each body's offset and length.
-pub fn read(sheet: &[u8]) -> Read
+pub fn read(sheet: &[u8]) -> Result<Bodies, Refusal>
     ensures { Reads sheet.now result }
 {
     let checked = check(sheet);
     match checked {
-        Check::Passed => Read::Accepted(bodies_of(sheet)),
-        Check::Failed(x) => Read::Refused(x),
+        Ok(()) => Ok(bodies_of(sheet)),
+        Err(x) => Err(x),
     }
 }

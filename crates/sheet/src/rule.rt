@@ -9,7 +9,7 @@ ghost use Rattle.sheet.specs.Reading.{rule_check};
 use crate::actions::both_zero;
 use crate::decode::{byte_at, fields_at, narrow_at};
 use crate::kinds::child_count;
-use crate::{Check, Extent, Fields, Node, Refusal, Variable};
+use crate::{Fields, Node, Refusal, Variable};
 
 // The rule's length and N are within their limits.
 fn sized(r: &[u8]) -> bool
@@ -89,59 +89,53 @@ fn modal_right(r: &[u8], entries: usize, n: Node) -> bool
 }
 
 // The subtree of node n: each kind takes its own course.
-fn subtree_from(r: &[u8], entries: usize, n: Node) -> Extent
+fn subtree_from(r: &[u8], entries: usize, n: Node) -> Result<usize, Node>
     requires { NodeOf r.now n.0 }
     ensures { Ended entries r.now n.0 result }
 {
     let k = kind_at(r, n);
     let next = n.0 as usize + 1;
     match k {
-        0..=1 => {
-            if leaf_right(r, n) {
-                Extent::Ends(next)
-            } else {
-                Extent::Faulty(n)
-            }
-        }
+        0..=1 => { if leaf_right(r, n) { Ok(next) } else { Err(n) } }
         2..=3 => {
             if x_is_child(r, n, next) {
                 let first = subtree_from(r, entries, Node(n.0 + 1));
                 match first {
-                    Extent::Faulty(m) => Extent::Faulty(m),
-                    Extent::Ends(e) => {
+                    Err(m) => Err(m),
+                    Ok(e) => {
                         if y_is_child(r, n, e) {
                             subtree_from(r, entries, Node(e as u8))
                         } else {
-                            Extent::Faulty(n)
+                            Err(n)
                         }
                     }
                 }
             } else {
-                Extent::Faulty(n)
+                Err(n)
             }
         }
         4..=5 => {
             if modal_right(r, entries, n) {
                 subtree_from(r, entries, Node(n.0 + 1))
             } else {
-                Extent::Faulty(n)
+                Err(n)
             }
         }
         6 => {
             if variable_right(r, n) {
-                Extent::Ends(next)
+                Ok(next)
             } else {
-                Extent::Faulty(n)
+                Err(n)
             }
         }
         7..=8 => {
             if y_is_child(r, n, next) {
                 subtree_from(r, entries, Node(n.0 + 1))
             } else {
-                Extent::Faulty(n)
+                Err(n)
             }
         }
-        _ => Extent::Faulty(n),
+        _ => Err(n),
     }
 }
 
@@ -152,8 +146,8 @@ fn syntax_fault(r: &[u8], entries: usize) -> usize
 {
     let whole = subtree_from(r, entries, Node(0));
     match whole {
-        Extent::Faulty(m) => m.0 as usize,
-        Extent::Ends(e) => e,
+        Err(m) => m.0 as usize,
+        Ok(e) => e,
     }
 }
 
@@ -283,22 +277,22 @@ fn binders_with(r: &[u8], n: Node, binders: usize) -> usize
 }
 
 // Refusals 8, 9 and 10.
-pub(crate) fn check_rule(entries: usize, r: &[u8]) -> Check
+pub(crate) fn check_rule(entries: usize, r: &[u8]) -> Result<(), Refusal>
     ensures { result ≡ rule_check entries r.now }
 {
     if !sized(r) {
-        return Check::Failed(Refusal::RuleSize);
+        return Err(Refusal::RuleSize);
     }
     let count = byte_at(r, 0);
     let s = syntax_fault(r, entries);
     if s != count {
-        return Check::Failed(Refusal::SyntaxFault(Node(s as u8)));
+        return Err(Refusal::SyntaxFault(Node(s as u8)));
     }
     let b = lowest_faulty(r);
     if b != count {
-        return Check::Failed(Refusal::BindingFault(Node(b as u8)));
+        return Err(Refusal::BindingFault(Node(b as u8)));
     }
-    Check::Passed
+    Ok(())
 }
 
 // N, the number of nodes.

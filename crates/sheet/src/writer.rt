@@ -6,7 +6,7 @@ ghost use Rattle.sheet.specs.RunningCalls.{Writes};
 ghost use Rattle.sheet.specs.Internal.Room.{Room};
 
 use crate::body_check::check_bodies;
-use crate::{Check, HEAD_LENGTH, Refusal, Written};
+use crate::{HEAD_LENGTH, Refusal};
 
 // The first 17 bytes of a sheet whose bodies have these lengths. An offset is written modulo 65,536; in a sheet none is so large.
 pub fn head_of(plan: u16, actions: u16, rule: u16) -> [u8; 17]
@@ -59,19 +59,19 @@ fn put_sheet(p: &[u8], a: &[u8], r: &[u8], out: &mut [u8])
 }
 
 // The sheet of three bodies, at the front of out, and its length; or the refusal, with out unchanged.
-pub fn write(plan: &[u8], actions: &[u8], rule: &[u8], out: &mut [u8]) -> Written
+pub fn write(plan: &[u8], actions: &[u8], rule: &[u8], out: &mut [u8]) -> Result<usize, Refusal>
     ensures { Writes plan.now actions.now rule.now out.old result out.new }
 {
     let checked = check_bodies(plan, actions, rule);
     match checked {
-        Check::Failed(x) => Written::Refused(x),
-        Check::Passed => {
+        Err(x) => Err(x),
+        Ok(()) => {
             let length = HEAD_LENGTH + plan.len() + actions.len() + rule.len();
             if out.len() < length {
-                return Written::Refused(Refusal::OutputShort);
+                return Err(Refusal::OutputShort);
             }
             put_sheet(plan, actions, rule, out);
-            Written::Wrote(length)
+            Ok(length)
         }
     }
 }

@@ -1,7 +1,7 @@
 // Lines of words on standard output.
 ghost use Rattle.std.specs.Prelude.{◌+◌, ◌<◌, ◌≤◌, IfOk, length};
 
-use sheet::Refusal;
+use sheet::{Numbered, Refusal};
 use std::io::{Print, Result, Stdout};
 
 pub(crate) fn text(stdout: Stdout, s: &[u8]) -> Result<()> {

@@ -1,7 +1,7 @@
 // Request 1: a blob is read as a sheet.
 use crate::input::{Buffer, Number};
 use crate::{input, output};
-use sheet::{Bodies, Read, Span};
+use sheet::{Bodies, Span};
 use std::io::{Result, Stdin, Stdout};
 
 fn write_span(stdout: Stdout, s: Span) -> Result<()> {
@@ -26,11 +26,11 @@ fn read(stdout: Stdout, sheet: &[u8]) -> Result<()> {
     output::text(stdout, b"read")?;
     let answer = sheet::reader::read(sheet);
     match answer {
-        Read::Accepted(b) => {
+        Ok(b) => {
             output::accepted(stdout)?;
             write_bodies(stdout, b)?;
         }
-        Read::Refused(r) => {
+        Err(r) => {
             output::refused(stdout, r)?;
             write_span(stdout, empty_span())?;
             write_span(stdout, empty_span())?;

@@ -3,17 +3,17 @@ ghost use Rattle.std.specs.Prelude.{◌≤◌, length};
 
 use crate::input::{Buffer, Byte, Number};
 use crate::{input, output};
-use sheet::Written;
+use sheet::Refusal;
 use std::io::{Result, Stdin, Stdout};
 
-fn write_length(stdout: Stdout, w: Written) -> Result<()> {
+fn write_length(stdout: Stdout, w: std::result::Result<usize, Refusal>) -> Result<()> {
     output::text(stdout, b"write")?;
     match w {
-        Written::Wrote(n) => {
+        Ok(n) => {
             output::accepted(stdout)?;
             output::number(stdout, n as u64)?;
         }
-        Written::Refused(r) => {
+        Err(r) => {
             output::refused(stdout, r)?;
             output::number(stdout, 0)?;
         }

@@ -9,7 +9,7 @@ use lib.ListN.{replicate, get_or}
 use lib.Dec.{leb}
 use Rattle.sheet.specs.Bytes.{byte, slice, lowest_from}
 use Rattle.sheet.specs.Refusals.{and_then, require}
-use Rattle.sheet.specs.declared.Check.{Check}
+use Rattle.sheet.specs.Refusals.{Check}
 use Rattle.sheet.specs.declared.Refusal.TheVariants.{TableShort}
 use Rattle.calculus.specs.KeySheet.{K}
 use Rattle.judge.specs.Cells.{table_bytes}

@@ -13,7 +13,7 @@ use Rattle.sheet.specs.Bytes.{pick}
 use Rattle.sheet.specs.Refusals.{number_of}
 use Rattle.sheet.specs.Reading.{sheet_check}
 use Rattle.sheet.specs.declared.Refusal.{Refusal}
-use Rattle.sheet.specs.declared.Check.TheVariants.{Failed}
+use Rattle.std.specs.Prelude.{Err}
 use Rattle.sheet.proofs.Acceptance.Numbers.{refused_number}
 use Rattle.sheet.proofs.Checks.Seeking.{seek_start, seek_here}
 use Rattle.judge.specs.Cells.{table_bytes}
@@ -95,7 +95,7 @@ too_many_given states n h = ap₂ (λ (a b : Bool). not a && b) (ne_eqb (length 
 
 -- ---- a sheet that is refused is refused by the first bench
 
-module _ (s states t : List ℕ) {x : Refusal} (failed : sheet_check s ≡ Failed x) where
+module _ (s states t : List ℕ) {x : Refusal} (failed : sheet_check s ≡ Err x) where
   all_refuse : (i : ℕ) → bench_queried s states t i ≡ QueryRefused x
   unfolding queried_of query_check
   all_refuse i = rw failed

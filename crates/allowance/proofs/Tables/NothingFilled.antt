@@ -8,8 +8,8 @@ use lib.ListN.{length, drop, take-append-drop}
 use lib.Seq.{drop-cons}
 use Rattle.sheet.specs.Bytes.{slice}
 use Rattle.sheet.specs.RunningCalls.{AllBytes}
-use Rattle.sheet.specs.declared.Check.{Check}
-use Rattle.sheet.specs.declared.Check.TheVariants.{Passed, Failed}
+use Rattle.std.specs.Prelude.{Err, Ok}
+use Rattle.sheet.specs.Refusals.{Check}
 use Rattle.sheet.proofs.Acceptance.Parts.{slice_small}
 use Rattle.rows.specs.Tables.{byte_at, count, rewritten, fills, filling, query, visits, table}
 use Rattle.rows.proofs.Tables.Counting.{count_some}
@@ -98,8 +98,8 @@ nothing_filled s state t bytes number none = go (query_check s state t) (count_r
 
     go : (c : Check) (b : Bool) → (reported_query (answer_queried (result_of s state t) c b)).visits ≡ 0
         → left_by s (result_of s state t) t c b ≡ t
-    go Passed true e =
+    go (Ok tt) true e =
         let same : stored_count s t + visits (result_of s state t) ≡ stored_count s t = omega (arith, e) in
         ap₂ (λ (l : List ℕ) (k : ℕ). table_with s l k t) (cells_same s state t e) same ∙ parts_of_table s t bytes long
-    go Passed false e = refl
-    go (Failed x) b e = refl
+    go (Ok tt) false e = refl
+    go (Err x) b e = refl

@@ -1,7 +1,6 @@
 -- What the functions over all benches ask and promise. Contracts of private functions cite it; no promise of a public call does.
-use Rattle.std.specs.Prelude.{ℕ, ◌<◌, ◌≤◌, ◌≡◌, Bool, List, length}
+use Rattle.std.specs.Prelude.{ℕ, ◌<◌, ◌≤◌, ◌≡◌, Bool, List, length, Ok}
 use Rattle.sheet.specs.Reading.{sheet_check}
-use Rattle.sheet.specs.declared.Check.TheVariants.{Passed}
 use Rattle.judge.specs.Cells.{table_bytes}
 use Rattle.allowance.specs.Granting.{most_benches, for_benches, bench_report, needs_of, answer_benches, benches_granted, tables_granted}
 use Rattle.allowance.specs.declared.Answer.{Answer}
@@ -18,7 +17,7 @@ verdicts_of s states t = for_benches (λ i. (bench_report s states t i).verdict)
 
 -- an accepted sheet and one to eight benches
 pub record BenchesRequire (s states : List ℕ) : Type 0 where
-  pub accepted : sheet_check s ≡ Passed
+  pub accepted : sheet_check s ≡ Ok tt
   pub some : 0 < length states
   pub few : length states ≤ most_benches
 

@@ -10,7 +10,7 @@ use Rattle.sheet.specs.Plan.{state_count, action_count, transition_count}
 use Rattle.sheet.specs.Reading.{bodies_check, sheet_check}
 use Rattle.sheet.specs.TransitionSystem.{LabelledTransition, plan_of}
 use Rattle.sheet.specs.WellFormed.{WellFormedActions, WellFormedBodies, WellFormedSheet}
-use Rattle.sheet.specs.declared.Check.TheVariants.{Passed}
+use Rattle.std.specs.Prelude.{Ok}
 use Rattle.sheet.proofs.Acceptance.Sheet.{bodies_iff, accepted_iff, plan_length_lem, actions_length_lem, rule_length_lem}
 use Rattle.sheet.proofs.Roundtrip.RoundTrip.{written_length, written_accepted, plan_back, actions_back, rule_back}
 use Rattle.graph.specs.Loops.{LoopReachable}
@@ -52,7 +52,7 @@ module _ (s : List ℕ) (t : LabelledTransition) where
         }
 
     -- the bodies of the new sheet pass the writer's checks
-    pub bodies_pass : Fits (plan_body s) t → bodies_check (plan_with (plan_body s) t) (actions_body s) (rule_body s) ≡ Passed
+    pub bodies_pass : Fits (plan_body s) t → bodies_check (plan_with (plan_body s) t) (actions_body s) (rule_body s) ≡ Ok tt
     bodies_pass f = (bodies_iff new (actions_body s) (rule_body s)).1 (with_bodies f)
 
   pub new_sheet : Addable s t → NewSheet s t (proposal_of s t) (sheet_with s t)
@@ -61,7 +61,7 @@ module _ (s : List ℕ) (t : LabelledTransition) where
       let plan = k.bodies_kept.plan_kept in
       let f = (not_unfit old t).0 a.fitting.fits in
       let b = with_bodies k f in
-      let q : sheet_check (sheet_with s t) ≡ Passed = written_accepted new (actions_body s) (rule_body s) (bodies_pass k f) in
+      let q : sheet_check (sheet_with s t) ≡ Ok tt = written_accepted new (actions_body s) (rule_body s) (bodies_pass k f) in
       let e : plan_body (sheet_with s t) ≡ new = plan_back new (actions_body s) (rule_body s) b in
       record {
         passed = q;

@@ -15,8 +15,8 @@ use Rattle.sheet.specs.TransitionSystem.{LabelledTransition}
 use Rattle.sheet.specs.WellFormed.{WellFormedPlan, WellFormedSheet}
 use Rattle.sheet.specs.declared.Refusal.{Refusal}
 use Rattle.sheet.specs.declared.Refusal.TheVariants.{Loop}
-use Rattle.sheet.specs.declared.Check.{Check}
-use Rattle.sheet.specs.declared.Check.TheVariants.{Passed, Failed}
+use Rattle.std.specs.Prelude.{Err, Ok}
+use Rattle.sheet.specs.Refusals.{Check}
 use Rattle.sheet.proofs.Acceptance.Numbers.{low_refusal, refused_number}
 use Rattle.sheet.proofs.Acceptance.Order.{given_in_order}
 use Rattle.sheet.proofs.Acceptance.Sheet.{accepted_iff, not_refused}
@@ -33,12 +33,12 @@ use Rattle.branches.proofs.Plans.Loops.{loop_exactly}
 
 -- the refusal of a check that failed
 abbrev refusal_in : Check → Refusal
-refusal_in Passed = Loop
-refusal_in (Failed x) = x
+refusal_in (Ok tt) = Loop
+refusal_in (Err x) = x
 
 -- the cases of a sheet and a branch, with what propose answers in each
 pub data Outcome (s : List ℕ) (t : LabelledTransition) : Proposed → Type 0 where
-  unread : (x : Refusal) → sheet_check s ≡ Failed x → Outcome s t (Refused x)
+  unread : (x : Refusal) → sheet_check s ≡ Err x → Outcome s t (Refused x)
   unfit : WellFormedSheet s → Unfit (plan_body s) t → Outcome s t BranchUnfit
   looping : Fitting s t → LoopWith s t → Outcome s t (Refused Loop)
   taken : Addable s t → Outcome s t (Offered (proposal_of s t))
@@ -51,7 +51,7 @@ pub data Later : ℕ → Type 0 where
 
 -- the cases with the number and the place that are reported
 pub data Numbered (s : List ℕ) (t : LabelledTransition) : ℕ → ℕ → Type 0 where
-  unread : (x : Refusal) → sheet_check s ≡ Failed x → Numbered s t (number_of x) (place_of x)
+  unread : (x : Refusal) → sheet_check s ≡ Err x → Numbered s t (number_of x) (place_of x)
   unfit : WellFormedSheet s → Unfit (plan_body s) t → Numbered s t 40 0
   looping : Fitting s t → LoopWith s t → Numbered s t 12 0
   taken : {n : ℕ} → Addable s t → Later n → Numbered s t n 0
@@ -66,7 +66,7 @@ pub record Stopped (s : List ℕ) (t : LabelledTransition) (n : ℕ) : Type 0 wh
 module _ (s : List ℕ) (t : LabelledTransition) where
   -- ---- the cases shut one another out
 
-  pub stopped_unread : {x : Refusal} → sheet_check s ≡ Failed x → Stopped s t (number_of x)
+  pub stopped_unread : {x : Refusal} → sheet_check s ≡ Err x → Stopped s t (number_of x)
   stopped_unread {x} e =
       record {
         not_added = λ a. not_refused s e a.fitting.accepted;
@@ -129,8 +129,8 @@ module _ (s : List ℕ) (t : LabelledTransition) where
 
   by_sheet : (c : Check) → sheet_check s ≡ c
       → Outcome s t (answer_sheet c (answer_branch (branch_fits (plan_body s) t) (free_with s t) (proposal_of s t)))
-  by_sheet Passed e = by_fit ((accepted_iff s).0 e) (branch_fits (plan_body s) t) refl
-  by_sheet (Failed x) e = unread x e
+  by_sheet (Ok tt) e = by_fit ((accepted_iff s).0 e) (branch_fits (plan_body s) t) refl
+  by_sheet (Err x) e = unread x e
 
   pub outcome : Outcome s t (proposed_of s t)
   unfolding proposed_of
@@ -150,7 +150,7 @@ module _ (s : List ℕ) (t : LabelledTransition) where
   read_high (looping f l) k = inr (omega arith)
   read_high (taken a z) k = later_high z
 
-  refusal_given : {n p : ℕ} → Numbered s t n p → (y : Refusal) → sheet_check s ≡ Failed y → (n ≡ number_of y) × (p ≡ place_of y)
+  refusal_given : {n p : ℕ} → Numbered s t n p → (y : Refusal) → sheet_check s ≡ Err y → (n ≡ number_of y) × (p ≡ place_of y)
   refusal_given (unread x e) y f = let same : x ≡ y = ap refusal_in (sym e ∙ f) in (ap number_of same, ap place_of same)
   refusal_given (unfit k u) y f = absurd (not_refused s f k)
   refusal_given (looping g l) y f = absurd (not_refused s f g.accepted)

@@ -14,7 +14,7 @@ use Rattle.sheet.specs.TransitionSystem.{LabelledTransition}
 use Rattle.sheet.specs.WellFormed.{WellFormedSheet, WellFormedPlan}
 use Rattle.sheet.specs.declared.Refusal.{Refusal}
 use Rattle.sheet.specs.declared.Refusal.TheVariants.{Loop}
-use Rattle.sheet.specs.declared.Check.TheVariants.{Passed, Failed}
+use Rattle.std.specs.Prelude.{Err, Ok}
 use Rattle.sheet.proofs.Acceptance.Sheet.{accepted_iff}
 use Rattle.sheet.proofs.Limits.Longest.{lengths}
 use Rattle.graph.specs.LoopTest.{loop_free}
@@ -43,7 +43,7 @@ module _ (s : List ℕ) (place : ℕ) (new : List ℕ) where
 
 -- ---- an accepted sheet
 
-module _ (s : List ℕ) (t : LabelledTransition) (passed : sheet_check s ≡ Passed) where
+module _ (s : List ℕ) (t : LabelledTransition) (passed : sheet_check s ≡ Ok tt) where
   accepted : WellFormedSheet s
   accepted = (accepted_iff s).0 passed
 
@@ -110,7 +110,7 @@ module _ (s : List ℕ) (t : LabelledTransition) (passed : sheet_check s ≡ Pas
                 d ∙ (λ i. pick (loop_free (there i) 0) (Offered (proposal i)) (Refused Loop))
                 ∙ rw (passed, e) refl
 
-pub unread : (s : List ℕ) (t : LabelledTransition) (x : Refusal) → sheet_check s ≡ Failed x → (buffer : List ℕ)
+pub unread : (s : List ℕ) (t : LabelledTransition) (x : Refusal) → sheet_check s ≡ Err x → (buffer : List ℕ)
     → Examined s t (Refused x) buffer
 unfolding proposed_of
 unread s t x e buffer = record { answer = rw e refl; ready = λ q d. absurd (distinct q d) }

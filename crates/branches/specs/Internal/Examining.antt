@@ -1,12 +1,11 @@
 -- What the examination of a branch goes through. Contracts of private functions cite it; no promise of a public call does.
-use Rattle.std.specs.Prelude.{ℕ, ◌+◌, ◌≤◌, ◌≡◌, true, List, length, take}
+use Rattle.std.specs.Prelude.{ℕ, ◌+◌, ◌≤◌, ◌≡◌, true, List, length, take, Ok}
 use Rattle.sheet.specs.Bytes.{pick}
 use Rattle.sheet.specs.Contents.{plan_body}
 use Rattle.sheet.specs.Reading.{sheet_check}
 use Rattle.sheet.specs.TransitionSystem.{LabelledTransition}
 use Rattle.sheet.specs.WellFormed.{WellFormedPlan}
 use Rattle.sheet.specs.declared.Refusal.TheVariants.{Loop}
-use Rattle.sheet.specs.declared.Check.TheVariants.{Passed}
 use Rattle.graph.specs.LoopTest.{loop_free}
 use Rattle.branches.specs.Tags.{tag_of}
 use Rattle.branches.specs.Branches.{branch_fits, plan_with}
@@ -31,7 +30,7 @@ looked_of s place new = pick (loop_free new 0) (Offered (record { insertion = pl
 
 -- what is known after an offer: the sheet is accepted, its plan takes the branch, and the plan with it stands in the buffer
 pub record Ready (s : List ℕ) (t : LabelledTransition) (buffer : List ℕ) : Type 0 where
-  pub passed : sheet_check s ≡ Passed
+  pub passed : sheet_check s ≡ Ok tt
   pub fits : branch_fits (plan_body s) t ≡ true
   pub new_there : take (length (plan_body s) + 3) buffer ≡ plan_with (plan_body s) t
 

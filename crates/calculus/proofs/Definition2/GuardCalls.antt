@@ -6,10 +6,10 @@ use mathlib.Core.Logic.{◌↔◌, inl}
 use native.Mathlib.Omega.{arith}
 use mathlib.Core.List.{List}
 use Rattle.sheet.specs.Reading.{sheet_check}
-use Rattle.sheet.specs.declared.Check.TheVariants.{Passed, Failed}
+use Rattle.std.specs.Prelude.{Err, Ok}
+use Rattle.sheet.specs.Refusals.{Check}
 use Rattle.sheet.specs.declared.Refusal.{Refusal}
 use Rattle.sheet.specs.Refusals.{number_of, place_of}
-use Rattle.sheet.specs.declared.Check.{Check}
 use Rattle.sheet.specs.WellFormed.{WellFormedSheet}
 use Rattle.sheet.proofs.Acceptance.Numbers.{refused_number}
 use Rattle.sheet.proofs.Acceptance.Order.{given_in_order}
@@ -20,7 +20,7 @@ use Rattle.calculus.specs.declared.Guard.TheVariants.{Answered}
 use Rattle.calculus.proofs.Definition2.GuardSteps.{guard_refused}
 
 module _ (s : List ℕ) (r : Guard) (c : Guards s r) where
-  guard_accepted : sheet_check s ≡ Passed → r ≡ Answered (guarded_rule s)
+  guard_accepted : sheet_check s ≡ Ok tt → r ≡ Answered (guarded_rule s)
   unfolding guard_of
   guard_accepted e = c.0 ∙ ap (answer_guard s) e
 
@@ -35,14 +35,14 @@ module _ (s : List ℕ) (r : Guard) (c : Guards s r) where
         (λ e. inl (ap (λ (a : Guard). (reported_guard a).number) (guard_accepted e)));
   }
     where
-      refuses : (x : Refusal) → sheet_check s ≡ Failed x → reported_guard r ≡ record { number = number_of x; place = place_of x; answer = false }
+      refuses : (x : Refusal) → sheet_check s ≡ Err x → reported_guard r ≡ record { number = number_of x; place = place_of x; answer = false }
       refuses x e = ap reported_guard (c.0 ∙ sym (guard_refused s x e))
 
       by_check : (k : Check) → sheet_check s ≡ k → ((reported_guard r).number ≡ 0) ↔ WellFormedSheet s
-      by_check Passed e = (λ q. (accepted_iff s).0 e, λ w. ap (λ (a : Guard). (reported_guard a).number) (guard_accepted e))
-      by_check (Failed x) e = (
+      by_check (Ok tt) e = (λ q. (accepted_iff s).0 e, λ w. ap (λ (a : Guard). (reported_guard a).number) (guard_accepted e))
+      by_check (Err x) e = (
         λ q. absurd (omega (arith, refused_number x, ap (λ (g : GuardReport). g.number) (refuses x e))),
-        λ w. absurd (let f : Passed ≡ Failed x = sym ((accepted_iff s).1 w) ∙ e in let z : ◌≡◌ {A = ℕ} 0 1 = cc in omega arith),
+        λ w. absurd (let f : (Ok tt) ≡ Err x = sym ((accepted_iff s).1 w) ∙ e in let z : ◌≡◌ {A = ℕ} 0 1 = cc in omega arith),
       )
 
       same : Answered true ≡ Answered (guarded_rule s) → guarded_rule s ≡ true

@@ -11,7 +11,7 @@ use Rattle.sheet.specs.Rule.{node_count, node_kind, node_x, node_y, binder_node}
 use Rattle.sheet.specs.Fields.{fields_at}
 use Rattle.sheet.specs.Reading.{sheet_check}
 use Rattle.sheet.specs.declared.Fields.{Fields}
-use Rattle.sheet.specs.declared.Check.TheVariants.{Passed, Failed}
+use Rattle.std.specs.Prelude.{Err, Ok}
 use Rattle.sheet.specs.declared.Refusal.{Refusal}
 use Rattle.sheet.proofs.Acceptance.Parts.{rule_kept}
 use Rattle.calculus.specs.Definition2.{guarded_in}
@@ -107,11 +107,11 @@ module _ (r : List ℕ) (n first : ℕ) (pre : Since r n first) (f : Fields) (is
 
 -- the whole sheet
 module _ (s : List ℕ) where
-  pub guard_refused : (x : Refusal) → sheet_check s ≡ Failed x → Refused x ≡ guard_of s
+  pub guard_refused : (x : Refusal) → sheet_check s ≡ Err x → Refused x ≡ guard_of s
   unfolding guard_of
   guard_refused x e = ap (answer_guard s) (sym e)
 
-  module _ (e : sheet_check s ≡ Passed) (r : List ℕ) (q : r ≡ rule_body s) where
+  module _ (e : sheet_check s ≡ Ok tt) (r : List ℕ) (q : r ≡ rule_body s) where
     pub guard_start : Since r 0 0
     guard_start =
         subst (λ (x : List ℕ). Since x 0 0) (sym q)

@@ -14,7 +14,7 @@ use Rattle.sheet.specs.Contents.{rule_length, rule_offset, plan_body, actions_bo
 use Rattle.sheet.specs.Rule.{node_count, shape_of}
 use Rattle.sheet.specs.Reading.{sheet_check}
 use Rattle.sheet.specs.WellFormed.{WellFormedRule, WellFormedSheet}
-use Rattle.sheet.specs.declared.Check.TheVariants.{Passed}
+use Rattle.std.specs.Prelude.{Ok}
 use Rattle.sheet.proofs.Acceptance.Sheet.{rule_length_lem}
 use Rattle.sheet.proofs.Acceptance.Parts.{sheet_kept, rule_kept, rule_inside}
 use Rattle.calculus.specs.Exchange.{other_kind, exchanged_kind, exchanged_rule, exchanged}
@@ -77,7 +77,7 @@ module _ (choice : ℕ → Bool) where
 
 -- ---- the bytes of an accepted sheet
 
-module _ (choice : ℕ → Bool) (s : List ℕ) (accepted : sheet_check s ≡ Passed) where
+module _ (choice : ℕ → Bool) (s : List ℕ) (accepted : sheet_check s ≡ Ok tt) where
   ends : length s ≡ rule_offset s + rule_length s
   ends = (sheet_kept s accepted).ends
 

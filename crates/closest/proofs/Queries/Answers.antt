@@ -13,8 +13,8 @@ use Rattle.sheet.specs.Contents.{plan_body}
 use Rattle.sheet.specs.Plan.{state_count}
 use Rattle.sheet.specs.Reading.{sheet_check}
 use Rattle.sheet.specs.WellFormed.{WellFormedPlan}
-use Rattle.sheet.specs.declared.Check.{Check}
-use Rattle.sheet.specs.declared.Check.TheVariants.{Passed, Failed}
+use Rattle.std.specs.Prelude.{Err, Ok}
+use Rattle.sheet.specs.Refusals.{Check}
 use Rattle.sheet.specs.declared.Refusal.{Refusal}
 use Rattle.sheet.proofs.Acceptance.Parts.{bodies_kept}
 use Rattle.graph.specs.LoopTest.{all_pass, settled, loop_free}
@@ -66,13 +66,13 @@ all_states q [] e = refl
 all_states q (x ∷ l) e = ap₂ ◌&&◌ e.0 (all_states q l e.1)
 
 -- the reader's refusal
-pub finds_unread : (s t : List ℕ) {x : Refusal} → sheet_check s ≡ Failed x → Finds s t (Refused x) t
+pub finds_unread : (s t : List ℕ) {x : Refusal} → sheet_check s ≡ Err x → Finds s t (Refused x) t
 unfolding closest_of table_searched query_check
 finds_unread s t {x} e =
     let same : Refused x ≡ closest_of s t = sym (rw e refl) in
     (same, (ap reported_closest same, sym (rw e refl)))
 
-module _ (s : List ℕ) (accepted : sheet_check s ≡ Passed) where
+module _ (s : List ℕ) (accepted : sheet_check s ≡ Ok tt) where
   abbrev p : List ℕ
   p = plan_body s
 
@@ -181,18 +181,18 @@ module _ (s : List ℕ) (accepted : sheet_check s ≡ Passed) where
         finds_refused {x} e = go (in_turn_check s (states_in_order s) t) (count_right s t) refl refl (sym e ∙ call.0)
           where
             go : (c : Check) (b : Bool) → in_turn_check s (states_in_order s) t ≡ c → count_right s t ≡ b → TurnRefused x ≡ answer_in_turn passed (visits (searched s t)) c b → Finds s t (Refused x) u
-            go Passed true f g h = let z : ◌≡◌ {A = ℕ} 0 1 = cc in absurd (omega arith)
-            go Passed false f g h = let z : ◌≡◌ {A = ℕ} 0 1 = cc in absurd (omega arith)
-            go (Failed y) b f g h = let same : x ≡ y = cc in finds (ap Refused same ∙ sym (answer_is ∙ ap₂ (answer_closest (closest_found s t) (visits (searched s t))) f g))
+            go (Ok tt) true f g h = let z : ◌≡◌ {A = ℕ} 0 1 = cc in absurd (omega arith)
+            go (Ok tt) false f g h = let z : ◌≡◌ {A = ℕ} 0 1 = cc in absurd (omega arith)
+            go (Err y) b f g h = let same : x ≡ y = cc in finds (ap Refused same ∙ sym (answer_is ∙ ap₂ (answer_closest (closest_found s t) (visits (searched s t))) f g))
 
         pub finds_wrong_count : q ≡ TurnWrongCount → Finds s t WrongCount u
         unfolding in_turn_of
         finds_wrong_count e = go (in_turn_check s (states_in_order s) t) (count_right s t) refl refl (sym e ∙ call.0)
           where
             go : (c : Check) (b : Bool) → in_turn_check s (states_in_order s) t ≡ c → count_right s t ≡ b → TurnWrongCount ≡ answer_in_turn passed (visits (searched s t)) c b → Finds s t WrongCount u
-            go Passed true f g h = let z : ◌≡◌ {A = ℕ} 0 1 = cc in absurd (omega arith)
-            go Passed false f g h = finds (sym (answer_is ∙ ap₂ (answer_closest (closest_found s t) (visits (searched s t))) f g))
-            go (Failed y) b f g h = let z : ◌≡◌ {A = ℕ} 0 1 = cc in absurd (omega arith)
+            go (Ok tt) true f g h = let z : ◌≡◌ {A = ℕ} 0 1 = cc in absurd (omega arith)
+            go (Ok tt) false f g h = finds (sym (answer_is ∙ ap₂ (answer_closest (closest_found s t) (visits (searched s t))) f g))
+            go (Err y) b f g h = let z : ◌≡◌ {A = ℕ} 0 1 = cc in absurd (omega arith)
 
         -- so many passed, and so many cells were filled
         record Told (k n : ℕ) : Type 0 where
@@ -204,14 +204,14 @@ module _ (s : List ℕ) (accepted : sheet_check s ≡ Passed) where
         told {k} {n} e = go (in_turn_check s (states_in_order s) t) (count_right s t) refl refl (sym e ∙ call.0)
           where
             go : (c : Check) (b : Bool) → in_turn_check s (states_in_order s) t ≡ c → count_right s t ≡ b → Judged k n ≡ answer_in_turn passed (visits (searched s t)) c b → Told k n
-            go Passed true f g h =
+            go (Ok tt) true f g h =
                 let same : n ≡ visits (searched s t) = cc in
                 record {
                   passed_is = cc;
                   answer = λ e. finds (e ∙ ap (answer_found (closest_found s t)) same ∙ sym (answer_is ∙ ap₂ (answer_closest (closest_found s t) (visits (searched s t))) f g));
                 }
-            go Passed false f g h = let z : ◌≡◌ {A = ℕ} 0 1 = cc in absurd (omega arith)
-            go (Failed y) b f g h = let z : ◌≡◌ {A = ℕ} 0 1 = cc in absurd (omega arith)
+            go (Ok tt) false f g h = let z : ◌≡◌ {A = ℕ} 0 1 = cc in absurd (omega arith)
+            go (Err y) b f g h = let z : ◌≡◌ {A = ℕ} 0 1 = cc in absurd (omega arith)
 
         pub answer_required : {k n : ℕ} → q ≡ Judged k n → AnswerRequires order count marks k
         answer_required e = subst (AnswerRequires order count marks) (sym (told e).passed_is) right.required

@@ -8,7 +8,7 @@ use lib.ListN.{length, drop}
 use lib.Seq.{drop-append-add}
 use Rattle.sheet.specs.Bytes.{pick}
 use Rattle.sheet.specs.Reading.{sheet_check}
-use Rattle.sheet.specs.declared.Check.TheVariants.{Passed}
+use Rattle.std.specs.Prelude.{Ok}
 use Rattle.rows.specs.Rows.{conjunction, decides}
 use Rattle.rows.specs.Tables.{Result, out, verdict, visits, table, query}
 use Rattle.rows.specs.Internal.Solver.{walk, after}
@@ -54,7 +54,7 @@ up_to_first v (x ∷ l) = go (v x) (up_to_first v l)
     go true r = (r.0, ap (λ (k : List ℕ). x ∷ k) r.1)
     go false r = (l, refl)
 
-module _ (s : List ℕ) (accepted : sheet_check s ≡ Passed) where
+module _ (s : List ℕ) (accepted : sheet_check s ≡ Ok tt) where
   -- the walk along the cells of some states
   abbrev along : List ℕ → List ℕ → Result
   along l held = walk (result_at s) conjunction (root_cells l) held

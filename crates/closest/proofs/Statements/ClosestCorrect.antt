@@ -11,8 +11,8 @@ use Rattle.sheet.specs.Contents.{plan_body}
 use Rattle.sheet.specs.Plan.{state_count}
 use Rattle.sheet.specs.Reading.{sheet_check}
 use Rattle.sheet.specs.RefusalOrder.{GivenInOrder}
-use Rattle.sheet.specs.declared.Check.{Check}
-use Rattle.sheet.specs.declared.Check.TheVariants.{Passed, Failed}
+use Rattle.std.specs.Prelude.{Err, Ok}
+use Rattle.sheet.specs.Refusals.{Check}
 use Rattle.sheet.proofs.Acceptance.Numbers.{refused_number}
 use Rattle.sheet.proofs.Acceptance.Parts.{bodies_kept}
 use Rattle.sheet.proofs.Acceptance.Sheet.{accepted_iff}
@@ -70,9 +70,9 @@ module _ (s t : List ℕ) where
   same_numbers = go (query_check s 0 t) (count_right s t) refl refl
     where
       go : (c : Check) (b : Bool) → query_check s 0 t ≡ c → count_right s t ≡ b → Same (reported_closest (closest_of s t)) (query_report_of s 0 t)
-      go Passed true e f = rw (answered_by Passed true e f, queried_by Passed true e f) (number_0 (closest_found s t) (visits (searched s t)))
-      go Passed false e f = rw (answered_by Passed false e f, queried_by Passed false e f) (refl, refl)
-      go (Failed x) b e f = rw (answered_by (Failed x) b e f, queried_by (Failed x) b e f) (refl, refl)
+      go (Ok tt) true e f = rw (answered_by (Ok tt) true e f, queried_by (Ok tt) true e f) (number_0 (closest_found s t) (visits (searched s t)))
+      go (Ok tt) false e f = rw (answered_by (Ok tt) false e f, queried_by (Ok tt) false e f) (refl, refl)
+      go (Err x) b e f = rw (answered_by (Err x) b e f, queried_by (Err x) b e f) (refl, refl)
 
   -- refused, or not
   turned_down : (reported_closest (closest_of s t)).number ≢ 0
@@ -81,9 +81,9 @@ module _ (s t : List ℕ) where
     where
       go : (c : Check) (b : Bool) → query_check s 0 t ≡ c → count_right s t ≡ b
           → (reported_closest (closest_of s t) ≡ refused_report (reported_closest (closest_of s t)).number (reported_closest (closest_of s t)).place) × (table_searched s t ≡ t)
-      go Passed true e f = absurd (n (ap (λ (r : Closest). (reported_closest r).number) (answered_by Passed true e f) ∙ (number_0 (closest_found s t) (visits (searched s t))).0))
-      go Passed false e f = (rw (answered_by Passed false e f) refl, left_by_lem Passed false e f)
-      go (Failed x) b e f = (rw (answered_by (Failed x) b e f) refl, left_by_lem (Failed x) b e f)
+      go (Ok tt) true e f = absurd (n (ap (λ (r : Closest). (reported_closest r).number) (answered_by (Ok tt) true e f) ∙ (number_0 (closest_found s t) (visits (searched s t))).0))
+      go (Ok tt) false e f = (rw (answered_by (Ok tt) false e f) refl, left_by_lem (Ok tt) false e f)
+      go (Err x) b e f = (rw (answered_by (Err x) b e f) refl, left_by_lem (Err x) b e f)
 
   not_turned_down : (reported_closest (closest_of s t)).number ≡ 0 → reported_closest (closest_of s t) ≡ report_of (closest_found s t) (visits (searched s t))
   not_turned_down n = go (query_check s 0 t) (count_right s t) refl refl
@@ -92,14 +92,14 @@ module _ (s t : List ℕ) where
       told c b e f = ap (λ (r : Closest). (reported_closest r).number) (sym (answered_by c b e f)) ∙ n
 
       go : (c : Check) (b : Bool) → query_check s 0 t ≡ c → count_right s t ≡ b → reported_closest (closest_of s t) ≡ report_of (closest_found s t) (visits (searched s t))
-      go Passed true e f = ap reported_closest (answered_by Passed true e f)
-      go Passed false e f = absurd (omega (arith, told Passed false e f))
-      go (Failed x) b e f = absurd (omega (arith, refused_number x, told (Failed x) b e f))
+      go (Ok tt) true e f = ap reported_closest (answered_by (Ok tt) true e f)
+      go (Ok tt) false e f = absurd (omega (arith, told (Ok tt) false e f))
+      go (Err x) b e f = absurd (omega (arith, refused_number x, told (Err x) b e f))
 
   -- ---- a sheet and a table that are not refused
 
   record Judgeable : Type 0 where
-    pub accepted : sheet_check s ≡ Passed
+    pub accepted : sheet_check s ≡ Ok tt
     pub first : Takes s accepted 0
     pub fine : Fine s accepted t
 
@@ -107,7 +107,7 @@ module _ (s t : List ℕ) where
   judgeable n =
       let r = (call_numbers.queries s 0 t (queried_of s 0 t) (table_queried s 0 t) (defined s 0 t)).none.0 (sym same_numbers.0 ∙ n) in
       let there = r.0.there.free in
-      let accepted : sheet_check s ≡ Passed = (accepted_iff s).1 there.there.accepted in
+      let accepted : sheet_check s ≡ Ok tt = (accepted_iff s).1 there.there.accepted in
       record {
         accepted = accepted;
         first =
@@ -123,10 +123,10 @@ module _ (s t : List ℕ) where
   verdict_is state = refl
 
   module _ (solved : TableSolved s t) where
-    not_below : sheet_check s ≡ Passed → state_count (plan_body s) ≤ 0 → ⊥
+    not_below : sheet_check s ≡ Ok tt → state_count (plan_body s) ≤ 0 → ⊥
     not_below accepted h = omega (arith, (bodies_kept s accepted).plan_kept.some_states)
 
-    by_table1 : sheet_check s ≡ Passed → ByTable1 s (reported_closest (closest_of s t))
+    by_table1 : sheet_check s ≡ Ok tt → ByTable1 s (reported_closest (closest_of s t))
     by_table1 accepted = record {
       refused = (λ n. forth ((solved.refusals 0 (queried_of s 0 t) (table_queried s 0 t) (defined s 0 t)).0 (λ z. n (same_numbers.0 ∙ z))), λ loop z. (solved.refusals 0 (queried_of s 0 t) (table_queried s 0 t) (defined s 0 t)).1 (inr loop) (sym same_numbers.0 ∙ z));
       found = λ n.
@@ -147,7 +147,7 @@ module _ (s t : List ℕ) where
             let same : (query_report_of s state t).verdict ≡ holds_by s t state = ap (λ (q : QueryReport). q.verdict) told ∙ verdict_is state in
             (λ e. v.0 (same ∙ e), λ w. sym same ∙ v.1 w)
 
-  accepted_audit : (a : Audited) → Audits s t a → (reported_audit a).answer ≡ true → sheet_check s ≡ Passed
+  accepted_audit : (a : Audited) → Audits s t a → (reported_audit a).answer ≡ true → sheet_check s ≡ Ok tt
   accepted_audit a audits yes-said = (accepted_iff s).1 ((audits_correct.answered s t a audits).yes_exactly.0 yes-said).0.bytes.there.accepted
 
 -- ---- of every call

@@ -10,7 +10,7 @@ use Rattle.sheet.specs.Contents.{plan_body, rule_body}
 use Rattle.sheet.specs.Plan.{state_count}
 use Rattle.sheet.specs.Reading.{sheet_check}
 use Rattle.sheet.specs.WellFormed.{WellFormedPlan}
-use Rattle.sheet.specs.declared.Check.TheVariants.{Passed}
+use Rattle.std.specs.Prelude.{Ok}
 use Rattle.sheet.proofs.Acceptance.Parts.{bodies_kept}
 use Rattle.graph.specs.LoopTest.{loop_free}
 use Rattle.rows.specs.Rows.{conjunction, need}
@@ -51,7 +51,7 @@ reported_visits : (f : Found) (n : ℕ) → (report_of f n).visits ≡ n
 reported_visits everywhere n = refl
 reported_visits (fails_at x) n = refl
 
-module _ (s t : List ℕ) (accepted : sheet_check s ≡ Passed) (first : Takes s accepted 0) (fine : Fine s accepted t) where
+module _ (s t : List ℕ) (accepted : sheet_check s ≡ Ok tt) (first : Takes s accepted 0) (fine : Fine s accepted t) where
   abbrev p : List ℕ
   p = plan_body s
 

@@ -13,8 +13,8 @@ use Rattle.sheet.specs.Reading.{sheet_check}
 use Rattle.sheet.specs.RefusalOrder.{GivenInOrder}
 use Rattle.sheet.specs.Refusals.{number_of, place_of}
 use Rattle.sheet.specs.WellFormed.{WellFormedPlan, WellFormedSheet}
-use Rattle.sheet.specs.declared.Check.{Check}
-use Rattle.sheet.specs.declared.Check.TheVariants.{Passed, Failed}
+use Rattle.std.specs.Prelude.{Err, Ok}
+use Rattle.sheet.specs.Refusals.{Check}
 use Rattle.sheet.specs.declared.Refusal.{Refusal}
 use Rattle.sheet.specs.declared.Refusal.TheVariants.{NoSuchState, OutputShort}
 use Rattle.sheet.proofs.Acceptance.Numbers.{low_refusal, refused_number}
@@ -36,14 +36,14 @@ use Rattle.closest.proofs.Traces.Traces.{traces_unread, traces_no_state, traces_
 
 -- the refusal of a check that failed
 abbrev refusal_in : Check → Refusal
-refusal_in Passed = NoSuchState
-refusal_in (Failed x) = x
+refusal_in (Ok tt) = NoSuchState
+refusal_in (Err x) = x
 
 module _ (s : List ℕ) (state : ℕ) (out : List ℕ) where
   abbrev plan : List ℕ
   plan = plan_body s
 
-  answered_unread : (x : Refusal) → sheet_check s ≡ Failed x → TraceAnswered s state out (Refused x) out
+  answered_unread : (x : Refusal) → sheet_check s ≡ Err x → TraceAnswered s state out (Refused x) out
   answered_unread x e = record {
     in_order = given_in_order s (number_of x) (place_of x) same (λ f. absurd (not_refused s e ((accepted_iff s).0 f)));
     eleven = (λ h. absurd (omega (arith, low_refusal s e)), λ g. absurd (not_refused s e g.0));
@@ -57,7 +57,7 @@ module _ (s : List ℕ) (state : ℕ) (out : List ℕ) where
     refused = λ h. refl;
   }
     where
-      same : (y : Refusal) → sheet_check s ≡ Failed y → (number_of x ≡ number_of y) × (place_of x ≡ place_of y)
+      same : (y : Refusal) → sheet_check s ≡ Err y → (number_of x ≡ number_of y) × (place_of x ≡ place_of y)
       same y f = let z : x ≡ y = ap refusal_in (sym e ∙ f) in (ap number_of z, ap place_of z)
 
   module _ (k : WellFormedSheet s) where
@@ -143,7 +143,7 @@ module _ (s : List ℕ) (state : ℕ) (out : List ℕ) where
   of_call t a =
       subst (λ (r : Traced). TraceAnswered s state out r (output_traced s state out)) t.0 (subst (TraceAnswered s state out _) t.1.1 a)
 
-  module _ (e : sheet_check s ≡ Passed) where
+  module _ (e : sheet_check s ≡ Ok tt) where
     accepted : WellFormedSheet s
     accepted = (accepted_iff s).0 e
 
@@ -160,12 +160,12 @@ module _ (s : List ℕ) (state : ℕ) (out : List ℕ) where
         none n c = true≢false (sym (is_reached_lem plan state accepted.bodies_kept.plan_kept n c) ∙ r)
 
   by_check : (c : Check) → sheet_check s ≡ c → Answered
-  by_check Passed e =
+  by_check (Ok tt) e =
       elim (dec_lt state (state_count plan)) [
         | yes l ↦ by_count e l (is_reached plan state) refl
         | no l ↦ of_call (traces_no_state s state e (omega arith) out) (answered_no_state (accepted e) (omega arith))
       ]
-  by_check (Failed x) e = of_call (traces_unread s state e out) (answered_unread x e)
+  by_check (Err x) e = of_call (traces_unread s state e out) (answered_unread x e)
 
 pub trace_correct : TraceCorrect
 trace_correct s state out answer after t =

@@ -7,7 +7,7 @@ use borrow.Author.Tests.{lt-ltb, le-ltb, le-leb, lt-leb}
 use Rattle.sheet.specs.Contents.{plan_body}
 use Rattle.sheet.specs.Plan.{state_count}
 use Rattle.sheet.specs.Reading.{sheet_check}
-use Rattle.sheet.specs.declared.Check.TheVariants.{Passed, Failed}
+use Rattle.std.specs.Prelude.{Err, Ok}
 use Rattle.sheet.specs.declared.Refusal.{Refusal}
 use Rattle.sheet.specs.declared.Refusal.TheVariants.{NoSuchState, OutputShort}
 use Rattle.sheet.proofs.Acceptance.Parts.{plan_kept}
@@ -29,22 +29,22 @@ module _ (s : List ℕ) (state : ℕ) where
   unfolding output_traced
   traces out e f = (e, (ap reported_trace e, f ∙ ap (leaves way out) e))
 
-  pub unread : {x : Refusal} → sheet_check s ≡ Failed x → (room : ℕ) → Refused x ≡ traced_of s state room
+  pub unread : {x : Refusal} → sheet_check s ≡ Err x → (room : ℕ) → Refused x ≡ traced_of s state room
   unfolding traced_of trace_check
   unread e room = rw e refl
 
-  pub no_state_holds : sheet_check s ≡ Passed → state_count plan ≤ state → (room : ℕ) → Refused NoSuchState ≡ traced_of s state room
+  pub no_state_holds : sheet_check s ≡ Ok tt → state_count plan ≤ state → (room : ℕ) → Refused NoSuchState ≡ traced_of s state room
   unfolding traced_of trace_check
   no_state_holds e l room = rw (e, le-ltb state (state_count plan) l) refl
 
-  pub traces_unread : {x : Refusal} → sheet_check s ≡ Failed x → (out : List ℕ) → Traces s state out (Refused x) out
+  pub traces_unread : {x : Refusal} → sheet_check s ≡ Err x → (out : List ℕ) → Traces s state out (Refused x) out
   traces_unread e out = traces out (unread e (length out)) refl
 
-  pub traces_no_state : sheet_check s ≡ Passed → state_count plan ≤ state → (out : List ℕ) → Traces s state out (Refused NoSuchState) out
+  pub traces_no_state : sheet_check s ≡ Ok tt → state_count plan ≤ state → (out : List ℕ) → Traces s state out (Refused NoSuchState) out
   traces_no_state e l out = traces out (no_state_holds e l (length out)) refl
 
-  module _ (accepted : sheet_check s ≡ Passed) (below : state < state_count plan) where
-    passes : trace_check s state ≡ Passed
+  module _ (accepted : sheet_check s ≡ Ok tt) (below : state < state_count plan) where
+    passes : trace_check s state ≡ Ok tt
     unfolding trace_check
     passes = rw (accepted, lt-ltb state (state_count plan) below) refl
 

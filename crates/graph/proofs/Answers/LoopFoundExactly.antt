@@ -13,8 +13,8 @@ use Rattle.sheet.specs.Refusals.{require, and_then}
 use Rattle.sheet.specs.WellFormed.{WellFormedPlan}
 use Rattle.sheet.specs.declared.Refusal.{Refusal}
 use Rattle.sheet.specs.declared.Refusal.TheVariants.{NoSuchState}
-use Rattle.sheet.specs.declared.Check.{Check}
-use Rattle.sheet.specs.declared.Check.TheVariants.{Passed, Failed}
+use Rattle.std.specs.Prelude.{Err, Ok}
+use Rattle.sheet.specs.Refusals.{Check}
 use Rattle.sheet.proofs.Acceptance.Plan.{plan_iff}
 use Rattle.rows.proofs.Tables.Among.{false_if}
 use Rattle.graph.specs.LoopSearch.{loop_search_check, answer_loop_search, loop_search_of, LoopFoundExactly}
@@ -60,7 +60,7 @@ module _ (p : List ℕ) (state : ℕ) where
   unfolding loop_search_of loop_search_check
   reached free e = by_plan (plan_check p) refl e
     where
-      by_state : plan_check p ≡ Passed → (b : Bool) → ltb state (state_count p) ≡ b
+      by_state : plan_check p ≡ Ok tt → (b : Bool) → ltb state (state_count p) ≡ b
           → answer_loop_search (loop_free p state) (require b NoSuchState) ≡ answer_of free → Reached free
       by_state q true h e =
           let kept = (plan_iff p).0 q in
@@ -70,8 +70,8 @@ module _ (p : List ℕ) (state : ℕ) where
 
       by_plan : (c : Check) → plan_check p ≡ c
           → answer_loop_search (loop_free p state) (and_then c (require (ltb state (state_count p)) NoSuchState)) ≡ answer_of free → Reached free
-      by_plan Passed q e = by_state q (ltb state (state_count p)) refl e
-      by_plan (Failed x) q e = absurd (not_refused x free e)
+      by_plan (Ok tt) q e = by_state q (ltb state (state_count p)) refl e
+      by_plan (Err x) q e = absurd (not_refused x free e)
 
   answered : (free : Bool) → Reached free → loop_search_of p state ≡ answer_of free
   unfolding loop_search_of loop_search_check

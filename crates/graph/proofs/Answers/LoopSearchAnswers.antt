@@ -9,8 +9,8 @@ use Rattle.sheet.specs.Plan.{state_count, action_count}
 use Rattle.sheet.specs.Reading.{plan_check}
 use Rattle.sheet.specs.declared.Refusal.{Refusal}
 use Rattle.sheet.specs.declared.Refusal.TheVariants.{NoSuchState}
-use Rattle.sheet.specs.declared.Check.{Check}
-use Rattle.sheet.specs.declared.Check.TheVariants.{Passed, Failed}
+use Rattle.std.specs.Prelude.{Err, Ok}
+use Rattle.sheet.specs.Refusals.{Check}
 use Rattle.sheet.proofs.Acceptance.Plan.{plan_iff}
 use Rattle.graph.specs.LoopSearch.{loop_search_check, answer_loop_search, loop_search_of, reported_loop_search, loop_search_report_of}
 use Rattle.graph.specs.Explored.{ExploreRequires}
@@ -31,14 +31,14 @@ module _ (p : List ℕ) (state : ℕ) where
   unfolding loop_search_of
   answers r c e f = rw e (f, ap reported_loop_search f)
 
-  pub refused : (x : Refusal) → plan_check p ≡ Failed x → Answers (Refused x)
+  pub refused : (x : Refusal) → plan_check p ≡ Err x → Answers (Refused x)
   unfolding loop_search_check
-  refused x e = answers (Refused x) (Failed x) (rw e) refl
+  refused x e = answers (Refused x) (Err x) (rw e) refl
 
-  module _ (passed : plan_check p ≡ Passed) where
+  module _ (passed : plan_check p ≡ Ok tt) where
     pub no_state_holds : state_count p ≤ state → Answers (Refused NoSuchState)
     unfolding loop_search_check
-    no_state_holds h = answers (Refused NoSuchState) (Failed NoSuchState) (rw (passed, le-ltb state (state_count p) h)) refl
+    no_state_holds h = answers (Refused NoSuchState) (Err NoSuchState) (rw (passed, le-ltb state (state_count p) h)) refl
 
     -- the search from a state of the plan, with an index of the right size, found no loop, or one
     module _ (few : action_count p < 256) (below : state < state_count p) (index : Index) (sized : Sized index) where
@@ -48,5 +48,5 @@ module _ (p : List ℕ) (state : ℕ) where
       pub looked : (r b : Bool) → r ≡ found_none (explored p index state) → r ≡ b → Answers (pick b Free Found)
       unfolding loop_search_check
       looked r b e f =
-          answers (pick b Free Found) Passed (rw (passed, lt-ltb state (state_count p) below))
+          answers (pick b Free Found) (Ok tt) (rw (passed, lt-ltb state (state_count p) below))
           (ap (λ (x : Bool). pick x Free Found) (sym f ∙ (e ∙ (search_right p index state given).answer)))

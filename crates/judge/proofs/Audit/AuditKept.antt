@@ -3,7 +3,7 @@ use Rattle.std.proofs.Common.{◌≡◌, ℕ, ◌≤◌, Bool, true, false, not,
 use mathlib.Core.List.{Memᴰ}
 use Rattle.sheet.specs.Contents.{plan_body, rule_body}
 use Rattle.sheet.specs.Reading.{sheet_check}
-use Rattle.sheet.specs.declared.Check.TheVariants.{Passed}
+use Rattle.std.specs.Prelude.{Ok}
 use Rattle.sheet.proofs.Acceptance.Parts.{bodies_kept}
 use Rattle.sheet.proofs.Acceptance.Sheet.{accepted_iff}
 use Rattle.rows.specs.Rows.{Row, deciding, joined, Needed, itself, entry, value}
@@ -46,7 +46,7 @@ follows_kept position t u row v kept (by_all h e) = by_all (λ d m. kept d m (no
 abbrev pub Yes : List ℕ → List ℕ → Type 0
 Yes s t = AuditNotRefused s t × AuditRight s t
 
-module _ (s : List ℕ) (accepted : sheet_check s ≡ Passed) where
+module _ (s : List ℕ) (accepted : sheet_check s ≡ Ok tt) where
   abbrev cell_place : Cell → ℕ
   cell_place = position_of (rule_body s)
 
@@ -78,7 +78,7 @@ module _ (s : List ℕ) (accepted : sheet_check s ≡ Passed) where
     table_fine : Fine s accepted t
     table_fine = record { long = q.bytes.there.long; small = q.bytes.small; counted = f.count_right_holds }
 
-    check_passed : query_check s state t ≡ Passed
+    check_passed : query_check s state t ≡ Ok tt
     check_passed = query_passes s accepted t table_fine state taken
 
     count_passed : count_right s t ≡ true

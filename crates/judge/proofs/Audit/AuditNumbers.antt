@@ -8,8 +8,8 @@ use Rattle.sheet.specs.RefusalOrder.{GivenInOrder}
 use Rattle.sheet.specs.WellFormed.{WellFormedSheet}
 use Rattle.sheet.specs.declared.Refusal.{Refusal}
 use Rattle.sheet.specs.declared.Refusal.TheVariants.{Loop as LoopRefusal, TableShort, TableByte}
-use Rattle.sheet.specs.declared.Check.{Check}
-use Rattle.sheet.specs.declared.Check.TheVariants.{Passed, Failed}
+use Rattle.std.specs.Prelude.{Err, Ok}
+use Rattle.sheet.specs.Refusals.{Check}
 use Rattle.sheet.proofs.Acceptance.Order.{given_in_order}
 use Rattle.sheet.proofs.Acceptance.Numbers.{low_refusal, refused_number}
 use Rattle.sheet.proofs.Acceptance.Sheet.{accepted_iff, not_refused}
@@ -29,22 +29,22 @@ use Rattle.judge.proofs.Audit.FilledCells.{every_filled, some_filled, right_exac
 
 module _ (s t : List ℕ) where
   -- the check, by what each test gives
-  clearing_stops : (x : Refusal) → clear_check s t ≡ Failed x → audit_check s t ≡ Failed x
+  clearing_stops : (x : Refusal) → clear_check s t ≡ Err x → audit_check s t ≡ Err x
   unfolding audit_check
   clearing_stops x e = rw e
 
-  long_passes : TableLong s t → clear_check s t ≡ Passed
+  long_passes : TableLong s t → clear_check s t ≡ Ok tt
   long_passes q = clear_fits s t q.accepted q.long
 
-  byte_stops : TableLong s t → bytes_right (cell_bytes s) t ≡ false → audit_check s t ≡ Failed TableByte
+  byte_stops : TableLong s t → bytes_right (cell_bytes s) t ≡ false → audit_check s t ≡ Err TableByte
   unfolding audit_check
   byte_stops q h = rw (long_passes q, h)
 
-  loop_stops : TableLong s t → bytes_right (cell_bytes s) t ≡ true → every_byte s (byte_loop_free s t) ≡ false → audit_check s t ≡ Failed LoopRefusal
+  loop_stops : TableLong s t → bytes_right (cell_bytes s) t ≡ true → every_byte s (byte_loop_free s t) ≡ false → audit_check s t ≡ Err LoopRefusal
   unfolding audit_check
   loop_stops q h f = rw (long_passes q, h, f)
 
-  none_stops : TableLong s t → bytes_right (cell_bytes s) t ≡ true → every_byte s (byte_loop_free s t) ≡ true → audit_check s t ≡ Passed
+  none_stops : TableLong s t → bytes_right (cell_bytes s) t ≡ true → every_byte s (byte_loop_free s t) ≡ true → audit_check s t ≡ Ok tt
   unfolding audit_check
   none_stops q h f = rw (long_passes q, h, f)
 
@@ -66,22 +66,22 @@ module _ (s t : List ℕ) where
     number = (reported_audit r).number
 
     -- a refused call gives no
-    denied : {x : Refusal} → audit_check s t ≡ Failed x → (reported_audit r).answer ≡ true → ⊥
-    denied {x} e h = true≢false (sym h ∙ answer_of_lem (audited (Failed x) e))
+    denied : {x : Refusal} → audit_check s t ≡ Err x → (reported_audit r).answer ≡ true → ⊥
+    denied {x} e h = true≢false (sym h ∙ answer_of_lem (audited (Err x) e))
 
-    unread_stops : (x : Refusal) → sheet_check s ≡ Failed x → audit_check s t ≡ Failed x
+    unread_stops : (x : Refusal) → sheet_check s ≡ Err x → audit_check s t ≡ Err x
     unread_stops x e = clearing_stops x (clear_unread s t x e)
 
-    in_rising_order : (sheet_check s ≡ Passed → (number ≡ 0) ⊎ (10 < number)) → GivenInOrder s number (reported_audit r).place
+    in_rising_order : (sheet_check s ≡ Ok tt → (number ≡ 0) ⊎ (10 < number)) → GivenInOrder s number (reported_audit r).place
     in_rising_order = given_in_order s number (reported_audit r).place
-        (λ x e. let is = audited (Failed x) (unread_stops x e) in (number_of_lem is, place_of is))
+        (λ x e. let is = audited (Err x) (unread_stops x e) in (number_of_lem is, place_of is))
 
-    when_unread : (x : Refusal) → sheet_check s ≡ Failed x → AuditAnswered s t r
+    when_unread : (x : Refusal) → sheet_check s ≡ Err x → AuditAnswered s t r
     when_unread x e =
-        let n : number ≡ number_of x = number_of_lem (audited (Failed x) (unread_stops x e)) in
+        let n : number ≡ number_of x = number_of_lem (audited (Err x) (unread_stops x e)) in
         let refused : WellFormedSheet s → ⊥ = not_refused s e in
         record {
-          unreadable = λ y f. audited (Failed y) (unread_stops y f);
+          unreadable = λ y f. audited (Err y) (unread_stops y f);
           in_order = in_rising_order (λ f. absurd (refused ((accepted_iff s).0 f)));
           twenty = (λ h. absurd (omega (arith, low_refusal s e)), λ h. absurd (refused h.0));
           twenty_one = (λ h. absurd (omega (arith, low_refusal s e)), λ h. absurd (refused h.0.accepted));
@@ -95,7 +95,7 @@ module _ (s t : List ℕ) where
     when_short : WellFormedSheet s → length t < table_bytes s → AuditAnswered s t r
     when_short k h =
         let e = clearing_stops TableShort (clear_short s t k h) in
-        let n : number ≡ 20 = number_of_lem (audited (Failed TableShort) e) in
+        let n : number ≡ 20 = number_of_lem (audited (Err TableShort) e) in
         record {
           unreadable = λ y f. absurd (not_refused s f k);
           in_order = in_rising_order (λ f. inr (omega arith));
@@ -105,13 +105,13 @@ module _ (s t : List ℕ) where
           none = (λ g. absurd (omega arith), λ g. absurd (omega (arith, g.bytes.there.long)));
           yes_exactly = (λ g. absurd (denied e g), λ g. absurd (omega (arith, g.0.bytes.there.long)));
           wrong_count = λ g. absurd (omega (arith, g.bytes.there.long));
-          place = λ g. place_of (audited (Failed TableShort) e);
+          place = λ g. place_of (audited (Err TableShort) e);
         }
 
     when_byte_over : TableLong s t → bytes_right (cell_bytes s) t ≡ false → AuditAnswered s t r
     when_byte_over q h =
         let e = byte_stops q h in
-        let n : number ≡ 21 = number_of_lem (audited (Failed TableByte) e) in
+        let n : number ≡ 21 = number_of_lem (audited (Err TableByte) e) in
         let over = byte_over (cell_bytes s) t h in
         let not-small : BytesSmall s t → ⊥ = λ g. omega (arith, g.small over.0 over.1, over.2) in
         record {
@@ -123,13 +123,13 @@ module _ (s t : List ℕ) where
           none = (λ g. absurd (omega arith), λ g. absurd (not-small g.bytes));
           yes_exactly = (λ g. absurd (denied e g), λ g. absurd (not-small g.0.bytes));
           wrong_count = λ g. absurd (not-small g.bytes);
-          place = λ g. place_of (audited (Failed TableByte) e);
+          place = λ g. place_of (audited (Err TableByte) e);
         }
 
-    when_looping : BytesSmall s t → audit_check s t ≡ Failed LoopRefusal → (c : Cell) → FilledCell s t c → LoopReachable (successors (plan_body s)) c.state
+    when_looping : BytesSmall s t → audit_check s t ≡ Err LoopRefusal → (c : Cell) → FilledCell s t c → LoopReachable (successors (plan_body s)) c.state
         → AuditAnswered s t r
     when_looping q e c f w =
-        let n : number ≡ 12 = number_of_lem (audited (Failed LoopRefusal) e) in
+        let n : number ≡ 12 = number_of_lem (audited (Err LoopRefusal) e) in
         record {
           unreadable = λ y g. absurd (not_refused s g q.there.accepted);
           in_order = in_rising_order (λ g. inr (omega arith));
@@ -139,13 +139,13 @@ module _ (s t : List ℕ) where
           none = (λ g. absurd (omega arith), λ g. absurd (g.none c f w));
           yes_exactly = (λ g. absurd (denied e g), λ g. absurd (g.0.none c f w));
           wrong_count = λ g. absurd (g.none c f w);
-          place = λ g. place_of (audited (Failed LoopRefusal) e);
+          place = λ g. place_of (audited (Err LoopRefusal) e);
         }
 
-    when_answered : AuditNotRefused s t → audit_check s t ≡ Passed → AuditAnswered s t r
+    when_answered : AuditNotRefused s t → audit_check s t ≡ Ok tt → AuditAnswered s t r
     when_answered q e =
-        let n : number ≡ 0 = number_of_lem (audited Passed e) in
-        let a : (reported_audit r).answer ≡ audit_right s t = answer_of_lem (audited Passed e) in
+        let n : number ≡ 0 = number_of_lem (audited (Ok tt) e) in
+        let a : (reported_audit r).answer ≡ audit_right s t = answer_of_lem (audited (Ok tt) e) in
         record {
           unreadable = λ y g. absurd (not_refused s g q.bytes.there.accepted);
           in_order = in_rising_order (λ g. inl n);
@@ -154,8 +154,8 @@ module _ (s t : List ℕ) where
           twelve = (λ g. absurd (omega arith), λ g. absurd (q.none g.1.0 g.1.1 g.1.2));
           none = (λ g. q, λ g. n);
           yes_exactly = (λ g. (q, (right_exactly s t).0 (sym a ∙ g)), λ g. a ∙ (right_exactly s t).1 g.1);
-          wrong_count = λ g h. audited Passed e ∙ ap (λ (b : Bool). record { number = 0; place = 0; answer = b }) (miscounted_wrong s t h);
-          place = λ g. place_of (audited Passed e);
+          wrong_count = λ g h. audited (Ok tt) e ∙ ap (λ (b : Bool). record { number = 0; place = 0; answer = b }) (miscounted_wrong s t h);
+          place = λ g. place_of (audited (Ok tt) e);
         }
 
     loop_cases : TableLong s t → bytes_right (cell_bytes s) t ≡ true → (b : Bool) → every_byte s (byte_loop_free s t) ≡ b → AuditAnswered s t r
@@ -174,11 +174,11 @@ module _ (s t : List ℕ) where
     byte_cases l false h = when_byte_over l h
 
     sheet_cases : (c : Check) → sheet_check s ≡ c → AuditAnswered s t r
-    sheet_cases Passed e = elim (dec_lt (length t) (table_bytes s)) [
+    sheet_cases (Ok tt) e = elim (dec_lt (length t) (table_bytes s)) [
       | yes h ↦ when_short ((accepted_iff s).0 e) h
       | no h ↦ byte_cases (record { accepted = (accepted_iff s).0 e; long = omega arith }) (bytes_right (cell_bytes s) t) refl
     ]
-    sheet_cases (Failed x) e = when_unread x e
+    sheet_cases (Err x) e = when_unread x e
 
     pub audit_answered : AuditAnswered s t r
     audit_answered = sheet_cases (sheet_check s) refl

@@ -6,7 +6,7 @@ use Rattle.sheet.specs.Contents.{plan_body, rule_body}
 use Rattle.sheet.specs.Plan.{state_count}
 use Rattle.sheet.specs.Reading.{sheet_check}
 use Rattle.sheet.specs.WellFormed.{WellFormedPlan}
-use Rattle.sheet.specs.declared.Check.TheVariants.{Passed}
+use Rattle.std.specs.Prelude.{Ok}
 use Rattle.sheet.proofs.Acceptance.Sheet.{accepted_iff}
 use Rattle.calculus.specs.Verdict.{Verdict}
 use Rattle.rows.specs.Rows.{Solution, value}
@@ -36,7 +36,7 @@ two_true : (b : Bool) → (byte_of b ≡ 2) ↔ (b ≡ true)
 two_true b = (λ e. sym (known_byte b) ∙ ap known e, λ e. ap byte_of e)
 
 module _ (s t : List ℕ) (q : AuditNotRefused s t) (f : AuditRight s t) where
-  sheet_passes : sheet_check s ≡ Passed
+  sheet_passes : sheet_check s ≡ Ok tt
   sheet_passes = (accepted_iff s).1 q.bytes.there.accepted
 
   plan_kept : WellFormedPlan (plan_body s)

@@ -2,7 +2,7 @@
 use Rattle.std.proofs.Common.{◌≡◌, ℕ, ◌<◌, ◌≤◌, Bool, true, false, ◌&&◌, ◌⊎◌, List, length, sym, refl, ap, ◌∙◌, inl, inr, arith, eq-eqb, eqb-true}
 use Rattle.sheet.specs.Contents.{plan_body, actions_body, rule_body}
 use Rattle.sheet.specs.Reading.{sheet_check}
-use Rattle.sheet.specs.declared.Check.TheVariants.{Passed}
+use Rattle.std.specs.Prelude.{Ok}
 use Rattle.sheet.proofs.Acceptance.Parts.{bodies_kept}
 use Rattle.rows.specs.Rows.{value}
 use Rattle.rows.specs.Tables.{byte_at, empty, filled, byte_of, count, among, fills}
@@ -19,7 +19,7 @@ use Rattle.judge.proofs.Cells.CountLayout.{cells_byte, cells_length}
 use Rattle.judge.proofs.Cells.Ranks.{rank}
 use Rattle.judge.proofs.Cells.ValidCells.{Valid}
 
-module _ (s : List ℕ) (accepted : sheet_check s ≡ Passed) where
+module _ (s : List ℕ) (accepted : sheet_check s ≡ Ok tt) where
   pub solved : Solvable (position_of (rule_body s)) (rows (plan_body s) (actions_body s) (rule_body s)) (cell_bytes s) (cell_at (rule_body s)) (Valid (plan_body s) (actions_body s) (rule_body s)) (rank (plan_body s) (rule_body s)) enough
   solved = solvable (bodies_kept s accepted)
 

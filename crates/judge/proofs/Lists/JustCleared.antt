@@ -5,8 +5,8 @@ use lib.Seq.{drop-length}
 use Rattle.sheet.specs.Refusals.{require}
 use Rattle.sheet.specs.Reading.{sheet_check}
 use Rattle.sheet.specs.declared.Refusal.TheVariants.{TableShort}
-use Rattle.sheet.specs.declared.Check.{Check}
-use Rattle.sheet.specs.declared.Check.TheVariants.{Passed, Failed}
+use Rattle.std.specs.Prelude.{Err, Ok}
+use Rattle.sheet.specs.Refusals.{Check}
 use Rattle.sheet.proofs.Checks.Checks.{then_passed, require_passed, passed_then, passed_require}
 use Rattle.sheet.proofs.Acceptance.Numbers.{refused_number}
 use Rattle.rows.specs.Tables.{byte_at}
@@ -22,8 +22,8 @@ zeros n = replicate n 0
 zeros_length : (n : ℕ) → length (zeros n) ≡ n
 zeros_length n = length-replicate {A = ℕ} n 0
 
-module _ (s t : List ℕ) (accepted : sheet_check s ≡ Passed) (fits : table_bytes s ≤ length t) where
-  clear_passed : clear_check s t ≡ Passed
+module _ (s t : List ℕ) (accepted : sheet_check s ≡ Ok tt) (fits : table_bytes s ≤ length t) where
+  clear_passed : clear_check s t ≡ Ok tt
   unfolding clear_check
   clear_passed =
       then_passed (sheet_check s) (require (leb (table_bytes s) (length t)) TableShort) accepted
@@ -59,22 +59,22 @@ module _ (s t : List ℕ) (accepted : sheet_check s ≡ Passed) (fits : table_by
   cleared_count = zero_count s (table_cleared s t) cleared_below
 
 -- clearing gives number 0 for an accepted sheet on every buffer long enough, and for no other
-pub clears_long : (s t : List ℕ) → sheet_check s ≡ Passed → table_bytes s ≤ length t → (clear_report_of s t).number ≡ 0
+pub clears_long : (s t : List ℕ) → sheet_check s ≡ Ok tt → table_bytes s ≤ length t → (clear_report_of s t).number ≡ 0
 unfolding cleared_of
 clears_long s t accepted fits = ap (λ (c : Check). (reported_clear (answer_cleared c)).number) (clear_passed s t accepted fits)
 
-pub cleared_only : (s t : List ℕ) → (clear_report_of s t).number ≡ 0 → (sheet_check s ≡ Passed) × (table_bytes s ≤ length t)
+pub cleared_only : (s t : List ℕ) → (clear_report_of s t).number ≡ 0 → (sheet_check s ≡ Ok tt) × (table_bytes s ≤ length t)
 unfolding cleared_of clear_check
 cleared_only s t e =
     let q = passed_then (sheet_check s) (require (leb (table_bytes s) (length t)) TableShort) (go (clear_check s t) e) in
     (q.0, leb-true (table_bytes s) (length t) (passed_require (leb (table_bytes s) (length t)) TableShort q.1))
   where
-    go : (c : Check) → (reported_clear (answer_cleared c)).number ≡ 0 → c ≡ Passed
-    go Passed e = refl
-    go (Failed x) e = absurd (omega (arith, refused_number x))
+    go : (c : Check) → (reported_clear (answer_cleared c)).number ≡ 0 → c ≡ Ok tt
+    go (Ok tt) e = refl
+    go (Err x) e = absurd (omega (arith, refused_number x))
 
 -- a buffer of as many bytes as the table has
-pub cleared_exact : (s t : List ℕ) → sheet_check s ≡ Passed → length t ≡ table_bytes s → table_cleared s t ≡ replicate (table_bytes s) 0
+pub cleared_exact : (s t : List ℕ) → sheet_check s ≡ Ok tt → length t ≡ table_bytes s → table_cleared s t ≡ replicate (table_bytes s) 0
 cleared_exact s t accepted e =
     cleared_is s t accepted (omega arith)
     ∙ ap (λ (l : List ℕ). zeros (table_bytes s) ++ l) (ap (λ (n : ℕ). drop n t) (sym e) ∙ drop-length t)

@@ -4,8 +4,8 @@ use lib.ListN.{length-replicate}
 use lib.Seq.{take-append-le}
 use Rattle.sheet.specs.Contents.{rule_body}
 use Rattle.sheet.specs.Reading.{sheet_check}
-use Rattle.sheet.specs.declared.Check.{Check}
-use Rattle.sheet.specs.declared.Check.TheVariants.{Passed, Failed}
+use Rattle.std.specs.Prelude.{Err, Ok}
+use Rattle.sheet.specs.Refusals.{Check}
 use Rattle.rows.specs.Tables.{byte_at, filled, count, visits, table}
 use Rattle.rows.proofs.Lists.Lists.{query_length}
 use Rattle.judge.specs.Cells.{cell, written_rows, enough, position_of, cell_at, cell_bytes, table_bytes, cells_in}
@@ -74,9 +74,9 @@ module _ (s : List ℕ) where
         left x c b e f = sym (ap₂ (left_by s (result_of s state x) x) e f)
 
         go : (c : Check) (b : Bool) → query_check s state t ≡ c → count_right s t ≡ b → Same (table_queried s state t) (table_queried s state u)
-        go Passed true e f = subst₂ Same (left t Passed true e f) (left u Passed true (sym same_check ∙ e) (sym same_right ∙ f)) grown
-        go Passed false e f = subst₂ Same (left t Passed false e f) (left u Passed false (sym same_check ∙ e) (sym same_right ∙ f)) m
-        go (Failed x) b e f = subst₂ Same (left t (Failed x) b e f) (left u (Failed x) b (sym same_check ∙ e) (sym same_right ∙ f)) m
+        go (Ok tt) true e f = subst₂ Same (left t (Ok tt) true e f) (left u (Ok tt) true (sym same_check ∙ e) (sym same_right ∙ f)) grown
+        go (Ok tt) false e f = subst₂ Same (left t (Ok tt) false e f) (left u (Ok tt) false (sym same_check ∙ e) (sym same_right ∙ f)) m
+        go (Err x) b e f = subst₂ Same (left t (Err x) b e f) (left u (Err x) b (sym same_check ∙ e) (sym same_right ∙ f)) m
 
   same_reports : (states t u : List ℕ) → Same t u → reports s t states ≡ reports s u states
   unfolding reports
@@ -85,7 +85,7 @@ module _ (s : List ℕ) where
       ap₂ ◌∷◌ (ap reported_query (same_answer t u m state)) (same_reports states (table_queried s state t) (table_queried s state u) (same_left t u m state))
 
   -- a table just cleared, and one with nothing past it
-  pub reports_cleared : sheet_check s ≡ Passed → (states t : List ℕ) → table_bytes s ≤ length t
+  pub reports_cleared : sheet_check s ≡ Ok tt → (states t : List ℕ) → table_bytes s ≤ length t
       → reports s (table_cleared s t) states ≡ reports s (replicate (table_bytes s) 0) states
   reports_cleared accepted states t fits = same_reports states (table_cleared s t) bare (record {
     long = rw (cleared_length s t accepted fits) fits;

@@ -8,8 +8,8 @@ use Rattle.sheet.specs.Refusals.{require, and_then}
 use Rattle.sheet.specs.Reading.{sheet_check}
 use Rattle.sheet.specs.declared.Refusal.{Refusal}
 use Rattle.sheet.specs.declared.Refusal.TheVariants.{NoSuchState, Loop}
-use Rattle.sheet.specs.declared.Check.{Check}
-use Rattle.sheet.specs.declared.Check.TheVariants.{Passed, Failed}
+use Rattle.std.specs.Prelude.{Err, Ok}
+use Rattle.sheet.specs.Refusals.{Check}
 use Rattle.sheet.proofs.Checks.Checks.{and_parts, none_found}
 use Rattle.sheet.proofs.Acceptance.Parts.{bodies_kept}
 use Rattle.rows.specs.Tables.{byte_at, filled, count, Result, verdict, visits, table}
@@ -62,7 +62,7 @@ module _ (p : List ℕ) (v w : Cell → Bool) (agree : (state : ℕ) → takes p
   same_answers (state ∷ states) (q ∷ qs) [] a b = absurd b
   same_answers (state ∷ states) (q ∷ qs) (q' ∷ qs') a b = (same_answer state q q' a.0 b.0, same_answers states qs qs' a.1 b.1)
 
-module _ (s : List ℕ) (accepted : sheet_check s ≡ Passed) where
+module _ (s : List ℕ) (accepted : sheet_check s ≡ Ok tt) where
   -- the states whose queries are not refused
   abbrev pub Takes : ℕ → Type 0
   Takes state = takes (plan_body s) state ≡ true
@@ -92,7 +92,7 @@ module _ (s : List ℕ) (accepted : sheet_check s ≡ Passed) where
         ∙ sym (count_none (cell_bytes s) (λ i. filled (byte_at u i)) (λ i h. ap filled (zero i (omega arith))));
   }
 
-  pub query_passes : (u : List ℕ) → Fine u → (state : ℕ) → Takes state → query_check s state u ≡ Passed
+  pub query_passes : (u : List ℕ) → Fine u → (state : ℕ) → Takes state → query_check s state u ≡ Ok tt
   unfolding query_check bytes_right
   query_passes u fine state h =
       let b = and_parts (ltb state states_of) (loop_free (plan_body s) state) h in
@@ -112,11 +112,11 @@ module _ (s : List ℕ) (accepted : sheet_check s ≡ Passed) where
   abbrev refusal : ℕ → Refusal
   refusal state = pick (ltb state states_of) Loop NoSuchState
 
-  pub query_fails : (u : List ℕ) (state : ℕ) → takes (plan_body s) state ≡ false → query_check s state u ≡ Failed (refusal state)
+  pub query_fails : (u : List ℕ) (state : ℕ) → takes (plan_body s) state ≡ false → query_check s state u ≡ Err (refusal state)
   unfolding query_check
   query_fails u state h = rw accepted (go (ltb state states_of) (loop_free (plan_body s) state) h _)
     where
-      go : (b c : Bool) → (b && c) ≡ false → (next : Check) → and_then (require b NoSuchState) (and_then (require c Loop) next) ≡ Failed (pick b Loop NoSuchState)
+      go : (b c : Bool) → (b && c) ≡ false → (next : Check) → and_then (require b NoSuchState) (and_then (require c Loop) next) ≡ Err (pick b Loop NoSuchState)
       go true true h next = absurd (true≢false h)
       go true false h next = refl
       go false c h next = refl

@@ -9,8 +9,8 @@ use Rattle.sheet.specs.Reading.{sheet_check}
 use Rattle.sheet.specs.WellFormed.{WellFormedSheet}
 use Rattle.sheet.specs.declared.Refusal.{Refusal}
 use Rattle.sheet.specs.declared.Refusal.TheVariants.{NoSuchState, Loop, TableShort, TableByte}
-use Rattle.sheet.specs.declared.Check.{Check}
-use Rattle.sheet.specs.declared.Check.TheVariants.{Passed, Failed}
+use Rattle.std.specs.Prelude.{Err, Ok}
+use Rattle.sheet.specs.Refusals.{Check}
 use Rattle.sheet.specs.RefusalOrder.{GivenInOrder}
 use Rattle.sheet.proofs.Acceptance.Order.{given_in_order}
 use Rattle.sheet.proofs.Acceptance.Numbers.{low_refusal, refused_number}
@@ -34,12 +34,12 @@ use Rattle.judge.proofs.Lists.JustCleared.{cleared_length, cleared_below, cleare
 
 -- the refusal of a check that failed
 abbrev refusal_in : Check → Refusal
-refusal_in Passed = Loop
-refusal_in (Failed x) = x
+refusal_in (Ok tt) = Loop
+refusal_in (Err x) = x
 
 -- which of the cases a sheet, a state and a table are in, and the number of each
 pub data QueryCase (s : List ℕ) (state : ℕ) (t : List ℕ) : ℕ → ℕ → Type 0 where
-  unread : (x : Refusal) → sheet_check s ≡ Failed x → QueryCase s state t (number_of x) (place_of x)
+  unread : (x : Refusal) → sheet_check s ≡ Err x → QueryCase s state t (number_of x) (place_of x)
   no_state_holds : WellFormedSheet s → state_count (plan_body s) ≤ state → QueryCase s state t 11 0
   looping : StateThere s state → LoopReachable (successors (plan_body s)) state → QueryCase s state t 12 0
   short : NoLoopAhead s state → length t < table_bytes s → QueryCase s state t 20 0
@@ -48,10 +48,10 @@ pub data QueryCase (s : List ℕ) (state : ℕ) (t : List ℕ) : ℕ → ℕ →
   fine : CellsRight s state t → stored_count s t ≡ filled_cells s t → QueryCase s state t 0 0
 
 module _ (s : List ℕ) where
-  kept : sheet_check s ≡ Passed → WellFormedSheet s
+  kept : sheet_check s ≡ Ok tt → WellFormedSheet s
   kept e = (accepted_iff s).0 e
 
-  passed : WellFormedSheet s → sheet_check s ≡ Passed
+  passed : WellFormedSheet s → sheet_check s ≡ Ok tt
   passed k = (accepted_iff s).1 k
 
   module _ (state : ℕ) (t : List ℕ) where
@@ -66,7 +66,7 @@ module _ (s : List ℕ) where
     Case c = QueryCase s state t (report_of c).number (report_of c).place
 
     by_count : CellsRight s state t → (b : Bool) → count_right s t ≡ b
-        → QueryCase s state t (reported_query (answer_queried (result_of s state t) Passed b)).number (reported_query (answer_queried (result_of s state t) Passed b)).place
+        → QueryCase s state t (reported_query (answer_queried (result_of s state t) (Ok tt) b)).number (reported_query (answer_queried (result_of s state t) (Ok tt) b)).place
     unfolding count_right
     by_count q true h = fine q (eqb-true (stored_count s t) (filled_cells s t) h)
     by_count q false h = miscounted q (eqb-false (stored_count s t) (filled_cells s t) h)
@@ -92,8 +92,8 @@ module _ (s : List ℕ) where
 
     by_sheet : (c : Check) → sheet_check s ≡ c
         → Case (and_then c (and_then (require (ltb state (state_count plan)) NoSuchState) (and_then (require (loop_free plan state) Loop) of_table)))
-    by_sheet Passed e = by_state (kept e) (ltb state (state_count plan)) refl
-    by_sheet (Failed x) e = unread x e
+    by_sheet (Ok tt) e = by_state (kept e) (ltb state (state_count plan)) refl
+    by_sheet (Err x) e = unread x e
 
     query_case : QueryCase s state t (reported_query (queried_of s state t)).number (reported_query (queried_of s state t)).place
     unfolding queried_of query_check
@@ -207,7 +207,7 @@ module _ (s : List ℕ) where
     none_from (miscounted q f) h = absurd (f h.1)
     none_from (fine q f) h = refl
 
-    unreadable_case : {n p : ℕ} → QueryCase s state t n p → (y : Refusal) → sheet_check s ≡ Failed y → (n ≡ number_of y) × (p ≡ place_of y)
+    unreadable_case : {n p : ℕ} → QueryCase s state t n p → (y : Refusal) → sheet_check s ≡ Err y → (n ≡ number_of y) × (p ≡ place_of y)
     unreadable_case (unread x e) y f = let same : x ≡ y = ap refusal_in (sym e ∙ f) in (ap number_of same, ap place_of same)
     unreadable_case (no_state_holds k l) y f = absurd (not_refused s f k)
     unreadable_case (looping q w) y f = absurd (not_refused s f q.accepted)
@@ -258,15 +258,15 @@ module _ (s : List ℕ) where
     abbrev size_check : Check
     size_check = require (leb (table_bytes s) (length t)) TableShort
 
-    pub clear_unread : (x : Refusal) → sheet_check s ≡ Failed x → clear_check s t ≡ Failed x
+    pub clear_unread : (x : Refusal) → sheet_check s ≡ Err x → clear_check s t ≡ Err x
     unfolding clear_check
     clear_unread x e = rw e
 
-    pub clear_short : WellFormedSheet s → length t < table_bytes s → clear_check s t ≡ Failed TableShort
+    pub clear_short : WellFormedSheet s → length t < table_bytes s → clear_check s t ≡ Err TableShort
     unfolding clear_check
     clear_short k h = rw (passed k, lt-leb (table_bytes s) (length t) h)
 
-    pub clear_fits : WellFormedSheet s → table_bytes s ≤ length t → clear_check s t ≡ Passed
+    pub clear_fits : WellFormedSheet s → table_bytes s ≤ length t → clear_check s t ≡ Ok tt
     unfolding clear_check
     clear_fits k h = rw (passed k, le-leb (table_bytes s) (length t) h)
 
@@ -283,16 +283,16 @@ module _ (s : List ℕ) where
       number_is : (c : Check) → clear_check s t ≡ c → (reported_clear r).number ≡ (clear_report c).number
       number_is c e = ap (λ (x : ClearReport). x.number) (report_is c e)
 
-      ordered : (sheet_check s ≡ Passed → ((reported_clear r).number ≡ 0) ⊎ (10 < (reported_clear r).number)) → GivenInOrder s (reported_clear r).number (reported_clear r).place
+      ordered : (sheet_check s ≡ Ok tt → ((reported_clear r).number ≡ 0) ⊎ (10 < (reported_clear r).number)) → GivenInOrder s (reported_clear r).number (reported_clear r).place
       ordered = given_in_order s (reported_clear r).number (reported_clear r).place
-          (λ x e. (number_is (Failed x) (clear_unread x e), ap (λ (y : ClearReport). y.place) (report_is (Failed x) (clear_unread x e))))
+          (λ x e. (number_is (Err x) (clear_unread x e), ap (λ (y : ClearReport). y.place) (report_is (Err x) (clear_unread x e))))
 
-      unread_numbers : (x : Refusal) → sheet_check s ≡ Failed x → ClearNumbers s t r u
+      unread_numbers : (x : Refusal) → sheet_check s ≡ Err x → ClearNumbers s t r u
       unread_numbers x e =
-          let n : (reported_clear r).number ≡ number_of x = number_is (Failed x) (clear_unread x e) in
-          let same : u ≡ t = left_is (Failed x) (clear_unread x e) in
+          let n : (reported_clear r).number ≡ number_of x = number_is (Err x) (clear_unread x e) in
+          let same : u ≡ t = left_is (Err x) (clear_unread x e) in
           record {
-            unreadable = λ y f. report_is (Failed y) (clear_unread y f);
+            unreadable = λ y f. report_is (Err y) (clear_unread y f);
             in_order = ordered (λ f. absurd (not_refused s e (kept f)));
             twenty = (λ h. absurd (omega (arith, low_refusal s e)), λ h. absurd (not_refused s e h.0));
             done = (λ h. absurd (omega (arith, refused_number x)), λ h. absurd (not_refused s e h.0));
@@ -305,14 +305,14 @@ module _ (s : List ℕ) where
 
       short_numbers : WellFormedSheet s → length t < table_bytes s → ClearNumbers s t r u
       short_numbers k h =
-          let n : (reported_clear r).number ≡ 20 = number_is (Failed TableShort) (clear_short k h) in
-          let same : u ≡ t = left_is (Failed TableShort) (clear_short k h) in
+          let n : (reported_clear r).number ≡ 20 = number_is (Err TableShort) (clear_short k h) in
+          let same : u ≡ t = left_is (Err TableShort) (clear_short k h) in
           record {
             unreadable = λ y f. absurd (not_refused s f k);
             in_order = ordered (λ f. inr (omega arith));
             twenty = (λ g. (k, h), λ g. n);
             done = (λ g. absurd (omega arith), λ g. absurd (omega (arith, g.1)));
-            place = λ g. ap (λ (x : ClearReport). x.place) (report_is (Failed TableShort) (clear_short k h));
+            place = λ g. ap (λ (x : ClearReport). x.place) (report_is (Err TableShort) (clear_short k h));
             cleared = λ g. absurd (omega arith);
             after = λ g. absurd (omega arith);
             length_kept = ap length same;
@@ -321,14 +321,14 @@ module _ (s : List ℕ) where
 
       long_numbers : WellFormedSheet s → table_bytes s ≤ length t → ClearNumbers s t r u
       long_numbers k h =
-          let n : (reported_clear r).number ≡ 0 = number_is Passed (clear_fits k h) in
+          let n : (reported_clear r).number ≡ 0 = number_is (Ok tt) (clear_fits k h) in
           let same : u ≡ table_cleared s t = q.1.1 in
           record {
             unreadable = λ y f. absurd (not_refused s f k);
             in_order = ordered (λ f. inl n);
             twenty = (λ g. absurd (omega arith), λ g. absurd (omega (arith, g.1)));
             done = (λ g. (k, h), λ g. n);
-            place = λ g. ap (λ (x : ClearReport). x.place) (report_is Passed (clear_fits k h));
+            place = λ g. ap (λ (x : ClearReport). x.place) (report_is (Ok tt) (clear_fits k h));
             cleared = λ g i l. ap (λ (x : List ℕ). byte_at x i) same ∙ cleared_below s t (passed k) h i l;
             after = λ g i l. ap (λ (x : List ℕ). byte_at x i) same ∙ cleared_above s t (passed k) h i l;
             length_kept = ap length same ∙ cleared_length s t (passed k) h;
@@ -339,12 +339,12 @@ module _ (s : List ℕ) where
       numbers = elim (dec_lt (length t) (table_bytes s)) [ yes h ↦ by_sheet_short h (sheet_check s) refl | no h ↦ by_sheet_long (omega arith) (sheet_check s) refl ]
         where
           by_sheet_short : length t < table_bytes s → (c : Check) → sheet_check s ≡ c → ClearNumbers s t r u
-          by_sheet_short h Passed e = short_numbers (kept e) h
-          by_sheet_short h (Failed x) e = unread_numbers x e
+          by_sheet_short h (Ok tt) e = short_numbers (kept e) h
+          by_sheet_short h (Err x) e = unread_numbers x e
 
           by_sheet_long : table_bytes s ≤ length t → (c : Check) → sheet_check s ≡ c → ClearNumbers s t r u
-          by_sheet_long h Passed e = long_numbers (kept e) h
-          by_sheet_long h (Failed x) e = unread_numbers x e
+          by_sheet_long h (Ok tt) e = long_numbers (kept e) h
+          by_sheet_long h (Err x) e = unread_numbers x e
 
     -- ---- reading the count
 
@@ -355,15 +355,15 @@ module _ (s : List ℕ) where
 
       count_numbers : CountNumbers s t r
       count_numbers = record {
-        unreadable = λ x e. count_report (Failed x) (clear_unread x e);
+        unreadable = λ x e. count_report (Err x) (clear_unread x e);
         in_order = given_in_order s (reported_count r).number (reported_count r).place
-            (λ x e. (number_at_lem (count_report (Failed x) (clear_unread x e)), ap (λ (y : CountReport). y.place) (count_report (Failed x) (clear_unread x e))))
+            (λ x e. (number_at_lem (count_report (Err x) (clear_unread x e)), ap (λ (y : CountReport). y.place) (count_report (Err x) (clear_unread x e))))
             (λ e. elim (dec_lt (length t) (table_bytes s)) [
-              | yes h ↦ inr (omega (arith, number_at_lem (count_report (Failed TableShort) (clear_short (kept e) h))))
-              | no h ↦ inl (number_at_lem (count_report Passed (clear_fits (kept e) (omega arith))))
+              | yes h ↦ inr (omega (arith, number_at_lem (count_report (Err TableShort) (clear_short (kept e) h))))
+              | no h ↦ inl (number_at_lem (count_report (Ok tt) (clear_fits (kept e) (omega arith))))
             ]);
-        short = λ k h. count_report (Failed TableShort) (clear_short k h);
-        done = λ k h. count_report Passed (clear_fits k h);
+        short = λ k h. count_report (Err TableShort) (clear_short k h);
+        done = λ k h. count_report (Ok tt) (clear_fits k h);
       }
         where
           number_at_lem : {x y : CountReport} → x ≡ y → x.number ≡ y.number

@@ -7,7 +7,7 @@ use Rattle.sheet.specs.Contents.{plan_body, actions_body, rule_body}
 use Rattle.sheet.specs.Plan.{state_count}
 use Rattle.sheet.specs.WellFormed.{WellFormedBodies, WellFormedSheet}
 use Rattle.sheet.specs.Reading.{sheet_check}
-use Rattle.sheet.specs.declared.Check.TheVariants.{Passed}
+use Rattle.std.specs.Prelude.{Ok}
 use Rattle.sheet.proofs.Acceptance.Sheet.{accepted_iff}
 use Rattle.sheet.specs.TransitionSystem.{plan_of}
 use Rattle.calculus.specs.Decode.{formula}
@@ -64,7 +64,7 @@ unfolding reports
 refused_reports s [] u = tt
 refused_reports s (state ∷ states) u = (refused_report_lem (queried_of s state u), refused_reports s states (table_queried s state u))
 
-module _ (s : List ℕ) (accepted : sheet_check s ≡ Passed) where
+module _ (s : List ℕ) (accepted : sheet_check s ≡ Ok tt) where
   kept : WellFormedSheet s
   kept = (accepted_iff s).0 accepted
 
@@ -157,7 +157,7 @@ module _ (s : List ℕ) (accepted : sheet_check s ≡ Passed) where
     abbrev other : List ℕ
     other = exchanged choice s
 
-    other_accepted : sheet_check other ≡ Passed
+    other_accepted : sheet_check other ≡ Ok tt
     other_accepted = (accepted_iff other).1 (exchanged_kept choice kept)
 
     other_plan : plan_body other ≡ plan_body s
@@ -187,7 +187,7 @@ module _ (s : List ℕ) (accepted : sheet_check s ≡ Passed) where
         Iff.trans (Iff.symm (verdict_holds s state (below state h)))
         (Iff.trans (same_holds state h) (verdict_holds other state (rw other_plan (below state h))))
 
-module _ (s : List ℕ) (accepted : sheet_check s ≡ Passed) (t : List ℕ) (fits : table_bytes s ≤ length t) (states : List ℕ) where
+module _ (s : List ℕ) (accepted : sheet_check s ≡ Ok tt) (t : List ℕ) (fits : table_bytes s ≤ length t) (states : List ℕ) where
   exchanges : guarded_rule s ≡ true → (choice : ℕ → Bool) → SameUnderExchange s states (reports s (table_cleared s t) states) choice
   exchanges whole choice = record {
     accepted = other_accepted s accepted whole choice;

@@ -7,8 +7,8 @@ use Rattle.sheet.specs.Refusals.{number_of, place_of}
 use Rattle.sheet.specs.Reading.{sheet_check}
 use Rattle.sheet.specs.WellFormed.{WellFormedSheet}
 use Rattle.sheet.specs.declared.Refusal.{Refusal}
-use Rattle.sheet.specs.declared.Check.{Check}
-use Rattle.sheet.specs.declared.Check.TheVariants.{Passed, Failed}
+use Rattle.std.specs.Prelude.{Err, Ok}
+use Rattle.sheet.specs.Refusals.{Check}
 use Rattle.sheet.proofs.Acceptance.Order.{given_in_order}
 use Rattle.sheet.proofs.Acceptance.Numbers.{low_refusal, refused_number}
 use Rattle.sheet.proofs.Acceptance.Sheet.{accepted_iff, not_refused}
@@ -58,7 +58,7 @@ module _ (s states t : List ℕ) where
 
   -- ---- from a number's fact to the number
 
-  plan_of_lem : WellFormedSheet s → sheet_check s ≡ Passed
+  plan_of_lem : WellFormedSheet s → sheet_check s ≡ Ok tt
   plan_of_lem k = (accepted_iff s).1 k
 
   taken : NoLoopsAhead s states → StatesTaken s states
@@ -103,7 +103,7 @@ module _ (s states t : List ℕ) where
   -- ---- the number, by the tests in their order
 
   data Told (r : InTurnReport) : Type 0 where
-    low : (x : Refusal) → sheet_check s ≡ Failed x → Told r
+    low : (x : Refusal) → sheet_check s ≡ Err x → Told r
     high : WellFormedSheet s → (r.number ≡ 0) ⊎ (10 < r.number) → r.place ≡ 0 → Says r.number → Told r
 
   -- of a refusal over 10
@@ -156,8 +156,8 @@ module _ (s states t : List ℕ) where
       refusal k (in_turn_no_state s states t (plan_of_lem k) f.0 f.1 l) (omega arith) refl (k, (f.0, f.1, l))
 
   by_sheet : (c : Check) → sheet_check s ≡ c → Told report
-  by_sheet Passed e = by_states ((accepted_iff s).0 e) (all_pass below states) refl
-  by_sheet (Failed x) e = low x e
+  by_sheet (Ok tt) e = by_states ((accepted_iff s).0 e) (all_pass below states) refl
+  by_sheet (Err x) e = low x e
 
   says_low : (n : ℕ) → 0 < n → n ≤ 10 → Says n
   says_low n h l =
@@ -170,14 +170,14 @@ module _ (s states t : List ℕ) where
         ne_eqb n 35 (omega arith),
       ) tt
 
-  unread : (x : Refusal) → sheet_check s ≡ Failed x → (report.number ≡ number_of x) × (report.place ≡ place_of x)
+  unread : (x : Refusal) → sheet_check s ≡ Err x → (report.number ≡ number_of x) × (report.place ≡ place_of x)
   unread x e = let q = in_turn_unread s states t x e in (number_told q, place_told q)
 
   says : Told report → Says report.number
   says (low x e) = subst Says (sym (unread x e).0) (says_low (number_of x) (refused_number x) (low_refusal s e))
   says (high k n p f) = f
 
-  over_ten : Told report → sheet_check s ≡ Passed → (report.number ≡ 0) ⊎ (10 < report.number)
+  over_ten : Told report → sheet_check s ≡ Ok tt → (report.number ≡ 0) ⊎ (10 < report.number)
   over_ten (low x f) e = absurd (not_refused s f ((accepted_iff s).0 e))
   over_ten (high k n p f) e = n
 
@@ -191,9 +191,9 @@ module _ (s states t : List ℕ) where
         → u ≡ left_by s (result_in_turn s states t) t c b
         → ((reported_in_turn (answer_in_turn (passed_before (holds_by s t) states) (visits (result_in_turn s states t)) c b)).passed ≡ 0)
         × ((reported_in_turn (answer_in_turn (passed_before (holds_by s t) states) (visits (result_in_turn s states t)) c b)).visits ≡ 0) × (u ≡ t)
-    left_by_lem Passed true h e = absurd (h refl)
-    left_by_lem Passed false h e = (refl, refl, e)
-    left_by_lem (Failed x) b h e = (refl, refl, e)
+    left_by_lem (Ok tt) true h e = absurd (h refl)
+    left_by_lem (Ok tt) false h e = (refl, refl, e)
+    left_by_lem (Err x) b h e = (refl, refl, e)
 
     unchanged : report.number ≢ 0 → u ≡ table_in_turn s states t → (report.passed ≡ 0) × (report.visits ≡ 0) × (u ≡ t)
     unfolding in_turn_of table_in_turn

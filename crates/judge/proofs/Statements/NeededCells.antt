@@ -4,7 +4,7 @@ use mathlib.Core.List.Memᴰ
 use mathlib.Core.List.{Memᴰ}
 use Rattle.sheet.specs.Contents.{rule_body}
 use Rattle.sheet.specs.Reading.{sheet_check}
-use Rattle.sheet.specs.declared.Check.TheVariants.{Passed}
+use Rattle.std.specs.Prelude.{Ok}
 use Rattle.sheet.proofs.Acceptance.Parts.{bodies_kept}
 use Rattle.rows.specs.Rows.{Row, Needed, itself, entry, value, need}
 use Rattle.rows.specs.Tables.{among}
@@ -18,7 +18,7 @@ use Rattle.judge.proofs.Cells.CellLayout.{position_apart, valid_in}
 use Rattle.judge.proofs.Cells.Ranks.{rank_enough}
 use Rattle.judge.proofs.Statements.OneSolution.{Settled, Ranked, written_falls}
 
-module _ (s : List ℕ) (accepted : sheet_check s ≡ Passed) where
+module _ (s : List ℕ) (accepted : sheet_check s ≡ Ok tt) where
   abbrev place : Cell → ℕ
   place = position_of (rule_body s)
 

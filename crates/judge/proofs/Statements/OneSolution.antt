@@ -4,7 +4,7 @@ use Rattle.std.proofs.Common.{◌≡◌, ℕ, ◌<◌, List, sym, subst, inl, in
 use mathlib.Core.List.{Memᴰ}
 use Rattle.sheet.specs.Contents.{plan_body, actions_body, rule_body}
 use Rattle.sheet.specs.Reading.{sheet_check}
-use Rattle.sheet.specs.declared.Check.TheVariants.{Passed}
+use Rattle.std.specs.Prelude.{Ok}
 use Rattle.rows.specs.Rows.{Row, value}
 use Rattle.graph.specs.Loops.{Way, last, first}
 use Rattle.judge.specs.Cells.{Cell, cell, enough, position_of, written_rows, cells_in}
@@ -36,7 +36,7 @@ pub comes_on : (R : Cell → Row Cell) (c d e : Cell) → ComesTo R c d → Mem�
 comes_on R c d e (inl q) m = inr (last (subst (λ (x : Cell). Memᴰ e (R x).entries) q m))
 comes_on R c d e (inr w) m = inr (way_on w m)
 
-module _ (s : List ℕ) (accepted : sheet_check s ≡ Passed) where
+module _ (s : List ℕ) (accepted : sheet_check s ≡ Ok tt) where
   -- the cells of settled states
   abbrev pub Settled : Cell → Type 0
   Settled = Valid (plan_body s) (actions_body s) (rule_body s)

@@ -5,8 +5,8 @@ use Rattle.sheet.specs.Plan.{state_count}
 use Rattle.sheet.specs.Refusals.{require, and_then}
 use Rattle.sheet.specs.Reading.{sheet_check}
 use Rattle.sheet.specs.declared.Refusal.TheVariants.{NoSuchState, Loop, TableShort, TableByte}
-use Rattle.sheet.specs.declared.Check.{Check}
-use Rattle.sheet.specs.declared.Check.TheVariants.{Passed, Failed}
+use Rattle.std.specs.Prelude.{Err, Ok}
+use Rattle.sheet.specs.Refusals.{Check}
 use Rattle.sheet.proofs.Acceptance.Numbers.{refused_number}
 use Rattle.sheet.proofs.Checks.Checks.{passed_then, passed_require}
 use Rattle.graph.specs.LoopTest.{loop_free}
@@ -25,7 +25,7 @@ use Rattle.judge.proofs.Steps.ScanSteps.{bytes_small}
 use Rattle.judge.proofs.Statements.NeededCells.{needed_at, at_needed}
 use Rattle.judge.proofs.Statements.OneSolution.{Settled, changed_falls, solves_from}
 
-module _ (s : List ℕ) (state : ℕ) (t : List ℕ) (passed : query_check s state t ≡ Passed) (right : count_right s t ≡ true) where
+module _ (s : List ℕ) (state : ℕ) (t : List ℕ) (passed : query_check s state t ≡ Ok tt) (right : count_right s t ≡ true) where
   abbrev of_table : Check
   of_table = and_then (require (leb (table_bytes s) (length t)) TableShort) (require (bytes_right (cell_bytes s) t) TableByte)
 
@@ -35,20 +35,20 @@ module _ (s : List ℕ) (state : ℕ) (t : List ℕ) (passed : query_check s sta
   abbrev of_state : Check
   of_state = and_then (require (ltb state (state_count (plan_body s))) NoSuchState) of_loop
 
-  sheet_passed : (sheet_check s ≡ Passed) × (of_state ≡ Passed)
+  sheet_passed : (sheet_check s ≡ Ok tt) × (of_state ≡ Ok tt)
   unfolding query_check
   sheet_passed = passed_then (sheet_check s) of_state passed
 
-  accepted : sheet_check s ≡ Passed
+  accepted : sheet_check s ≡ Ok tt
   accepted = sheet_passed.0
 
-  state_passed : (require (ltb state (state_count (plan_body s))) NoSuchState ≡ Passed) × (of_loop ≡ Passed)
+  state_passed : (require (ltb state (state_count (plan_body s))) NoSuchState ≡ Ok tt) × (of_loop ≡ Ok tt)
   state_passed = passed_then _ of_loop sheet_passed.1
 
-  loop_passed : (require (loop_free (plan_body s) state) Loop ≡ Passed) × (of_table ≡ Passed)
+  loop_passed : (require (loop_free (plan_body s) state) Loop ≡ Ok tt) × (of_table ≡ Ok tt)
   loop_passed = passed_then _ of_table state_passed.1
 
-  table_passed : (require (leb (table_bytes s) (length t)) TableShort ≡ Passed) × (require (bytes_right (cell_bytes s) t) TableByte ≡ Passed)
+  table_passed : (require (leb (table_bytes s) (length t)) TableShort ≡ Ok tt) × (require (bytes_right (cell_bytes s) t) TableByte ≡ Ok tt)
   table_passed = passed_then (require (leb (table_bytes s) (length t)) TableShort) _ loop_passed.1
 
   -- a state and a table that are taken
@@ -152,18 +152,18 @@ queries_correct = record {
 
     judged : (s : List ℕ) (state : ℕ) (t : List ℕ) (r : Queried) (u : List ℕ) → Queries s state t r u → (reported_query r).number ≡ 0
         → (c : Check) (b : Bool) → query_check s state t ≡ c → count_right s t ≡ b → QueryCorrect s state t (reported_query r) u
-    judged s state t r u q n Passed true e f =
-        subst (λ (x : QueryReport). QueryCorrect s state t x u) (sym (q.1.0 ∙ reported_by s state t Passed true e f))
+    judged s state t r u q n (Ok tt) true e f =
+        subst (λ (x : QueryReport). QueryCorrect s state t x u) (sym (q.1.0 ∙ reported_by s state t (Ok tt) true e f))
         (subst (QueryCorrect s state t (reported s state t e f)) (sym q.1.1) (correct s state t e f))
-    judged s state t r u q n Passed false e f = absurd (omega (arith, numbered (q.1.0 ∙ reported_by s state t Passed false e f)))
-    judged s state t r u q n (Failed x) b e f = absurd (omega (arith, refused_number x, numbered (q.1.0 ∙ reported_by s state t (Failed x) b e f)))
+    judged s state t r u q n (Ok tt) false e f = absurd (omega (arith, numbered (q.1.0 ∙ reported_by s state t (Ok tt) false e f)))
+    judged s state t r u q n (Err x) b e f = absurd (omega (arith, refused_number x, numbered (q.1.0 ∙ reported_by s state t (Err x) b e f)))
 
     refused : (s : List ℕ) (state : ℕ) (t : List ℕ) (r : Queried) (u : List ℕ) → Queries s state t r u → (reported_query r).number ≢ 0
         → (c : Check) (b : Bool) → query_check s state t ≡ c → count_right s t ≡ b → ((reported_query r).verdict ≡ false) × ((reported_query r).visits ≡ 0) × (u ≡ t)
-    refused s state t r u q n Passed true e f = absurd (n (numbered (q.1.0 ∙ reported_by s state t Passed true e f)))
-    refused s state t r u q n Passed false e f =
-        let same = q.1.0 ∙ reported_by s state t Passed false e f in
-        (ap (λ (y : QueryReport). y.verdict) same, ap (λ (y : QueryReport). y.visits) same, q.1.1 ∙ left_by_lem s state t Passed false e f)
-    refused s state t r u q n (Failed x) b e f =
-        let same = q.1.0 ∙ reported_by s state t (Failed x) b e f in
-        (ap (λ (y : QueryReport). y.verdict) same, ap (λ (y : QueryReport). y.visits) same, q.1.1 ∙ left_by_lem s state t (Failed x) b e f)
+    refused s state t r u q n (Ok tt) true e f = absurd (n (numbered (q.1.0 ∙ reported_by s state t (Ok tt) true e f)))
+    refused s state t r u q n (Ok tt) false e f =
+        let same = q.1.0 ∙ reported_by s state t (Ok tt) false e f in
+        (ap (λ (y : QueryReport). y.verdict) same, ap (λ (y : QueryReport). y.visits) same, q.1.1 ∙ left_by_lem s state t (Ok tt) false e f)
+    refused s state t r u q n (Err x) b e f =
+        let same = q.1.0 ∙ reported_by s state t (Err x) b e f in
+        (ap (λ (y : QueryReport). y.verdict) same, ap (λ (y : QueryReport). y.visits) same, q.1.1 ∙ left_by_lem s state t (Err x) b e f)

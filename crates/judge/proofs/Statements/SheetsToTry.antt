@@ -9,7 +9,7 @@ use Rattle.sheet.specs.Actions.{actions_sized, entry_faulty, entry_right}
 use Rattle.sheet.specs.Rule.{rule_sized, extent, binders_before, binder_node, end_within, binding_faulty}
 use Rattle.sheet.specs.Reading.{plan_check, actions_check, rule_check, bodies_check, sheet_check}
 use Rattle.sheet.specs.Writing.{sheet_of}
-use Rattle.sheet.specs.declared.Check.TheVariants.{Passed}
+use Rattle.std.specs.Prelude.{Ok}
 use Rattle.sheet.proofs.Acceptance.Sheet.{accepted_iff}
 use Rattle.sheet.specs.TransitionSystem.{transitions_from, plan_of}
 use Rattle.calculus.specs.Decode.{action_within, formula_within, formula}
@@ -36,7 +36,7 @@ use Rattle.judge.proofs.Statements.RunningCalls.{delivered}
 use Rattle.judge.proofs.Lists.LongerTables.{reports_cleared}
 
 -- on the cleared bytes alone: what is past them is not looked at
-asked : (s : List ℕ) (states : List ℕ) (answers : List QueryReport) → sheet_check s ≡ Passed → reports s (replicate (table_bytes s) 0) states ≡ answers → Asked s (table_bytes s) states answers
+asked : (s : List ℕ) (states : List ℕ) (answers : List QueryReport) → sheet_check s ≡ Ok tt → reports s (replicate (table_bytes s) 0) states ≡ answers → Asked s (table_bytes s) states answers
 asked s states answers accepted e = record {
   accepted = accepted;
   table_size_holds = refl;
@@ -49,14 +49,14 @@ anywhere : (s : List ℕ) (answer : QueryReport) → ((t : List ℕ) → reporte
 anywhere s answer e t r u q = q.1.0 ∙ e t
 
 -- Table 1's verdict, where the evaluator gives it
-holds : (s : List ℕ) (state : ℕ) → sheet_check s ≡ Passed → state < state_count (plan_body s) → eval (plan_of (plan_body s)) (formula (actions_body s) (rule_body s) 0) empty_context state ≡ true → Verdict s state
+holds : (s : List ℕ) (state : ℕ) → sheet_check s ≡ Ok tt → state < state_count (plan_body s) → eval (plan_of (plan_body s)) (formula (actions_body s) (rule_body s) 0) empty_context state ≡ true → Verdict s state
 holds s state accepted h e = (verdict_decided ((accepted_iff s).0 accepted) state h).1 e
 
-fails : (s : List ℕ) (state : ℕ) → sheet_check s ≡ Passed → state < state_count (plan_body s) → eval (plan_of (plan_body s)) (formula (actions_body s) (rule_body s) 0) empty_context state ≡ false → Verdict s state → ⊥
+fails : (s : List ℕ) (state : ℕ) → sheet_check s ≡ Ok tt → state < state_count (plan_body s) → eval (plan_of (plan_body s)) (formula (actions_body s) (rule_body s) 0) empty_context state ≡ false → Verdict s state → ⊥
 fails s state accepted h e v = false≢true (sym e ∙ (verdict_decided ((accepted_iff s).0 accepted) state h).0 v)
 
 -- where the evaluator says the same of every state
-word : (s : List ℕ) (w : ℕ) → sheet_check s ≡ Passed → w < 2 ^ state_count (plan_body s)
+word : (s : List ℕ) (w : ℕ) → sheet_check s ≡ Ok tt → w < 2 ^ state_count (plan_body s)
     → ((state : ℕ) → state < state_count (plan_body s) → eval (plan_of (plan_body s)) (formula (actions_body s) (rule_body s) 0) empty_context state ≡ bit w state) → WordMeans s w
 word s w accepted small same = record {
   bits = λ state. (

@@ -8,7 +8,7 @@ use Rattle.sheet.specs.Rule.{node_count}
 use Rattle.sheet.specs.Reading.{sheet_check}
 use Rattle.sheet.specs.declared.Refusal.{Refusal}
 use Rattle.sheet.specs.declared.Refusal.TheVariants.{Loop as LoopRefusal, TableShort, TableByte}
-use Rattle.sheet.specs.declared.Check.TheVariants.{Passed, Failed}
+use Rattle.std.specs.Prelude.{Err, Ok}
 use Rattle.sheet.proofs.Acceptance.Parts.{sheet_kept, few_states, few_nodes, rule_kept}
 use Rattle.sheet.proofs.Checks.Bools.{differ, fails}
 use Rattle.sheet.proofs.Checks.Checks.{with_report}
@@ -37,15 +37,15 @@ use Rattle.judge.proofs.Steps.ScanSteps.{bytes_small, bytes_right_holds, over_ap
 -- ---- refusals, and yes or no
 
 module _ (s t : List ℕ) where
-  refused : (x : Refusal) → audit_check s t ≡ Failed x → Audits s t (Refused x)
+  refused : (x : Refusal) → audit_check s t ≡ Err x → Audits s t (Refused x)
   unfolding audited_of
   refused x e = with_report reported_audit (sym (ap (answer_audited (audit_right s t)) e))
 
-  pub audit_unread : (x : Refusal) → sheet_check s ≡ Failed x → Audits s t (Refused x)
+  pub audit_unread : (x : Refusal) → sheet_check s ≡ Err x → Audits s t (Refused x)
   unfolding audit_check
   audit_unread x e = refused x (rw (clear_unread s t x e))
 
-  module _ (accepted : sheet_check s ≡ Passed) where
+  module _ (accepted : sheet_check s ≡ Ok tt) where
     pub audit_short : length t < table_bytes s → Audits s t (Refused TableShort)
     unfolding audit_check
     audit_short h = refused TableShort (rw (clear_short s t (sheet_kept s accepted) h))
@@ -79,7 +79,7 @@ module _ (s t : List ℕ) where
             → Audits s t (Answered b)
         unfolding audited_of audit_check
         audit_judged free e =
-            let passed : audit_check s t ≡ Passed = rw (clear_fits s t (sheet_kept s accepted) long, bytes_right_holds (cell_bytes s) t small, free_filled.1 free) in
+            let passed : audit_check s t ≡ Ok tt = rw (clear_fits s t (sheet_kept s accepted) long, bytes_right_holds (cell_bytes s) t small, free_filled.1 free) in
             with_report reported_audit (ap Answered e ∙ sym (ap (answer_audited (audit_right s t)) passed))
 
 -- ---- the last step

@@ -4,7 +4,7 @@ use borrow.Author.Tests.{lt-leb}
 use Rattle.sheet.specs.Reading.{sheet_check}
 use Rattle.sheet.specs.declared.Refusal.{Refusal}
 use Rattle.sheet.specs.declared.Refusal.TheVariants.{TableShort}
-use Rattle.sheet.specs.declared.Check.TheVariants.{Passed, Failed}
+use Rattle.std.specs.Prelude.{Err, Ok}
 use Rattle.judge.specs.Cells.{table_bytes}
 use Rattle.judge.specs.Clearing.{clear_check, cleared_of, table_cleared, reported_clear, Clears}
 use Rattle.judge.specs.declared.Cleared.{Cleared}
@@ -18,11 +18,11 @@ module _ (s t : List ℕ) where
   answers : (r : Cleared) (now : List ℕ) → r ≡ cleared_of s t → now ≡ table_cleared s t → Answers r now
   answers r now e f = (e, (ap reported_clear e, f))
 
-  pub clears_refused : (x : Refusal) → sheet_check s ≡ Failed x → Answers (Refused x) t
+  pub clears_refused : (x : Refusal) → sheet_check s ≡ Err x → Answers (Refused x) t
   unfolding cleared_of table_cleared clear_check
   clears_refused x e = answers (Refused x) t (rw e) (rw e)
 
-  module _ (e : sheet_check s ≡ Passed) where
+  module _ (e : sheet_check s ≡ Ok tt) where
     pub clears_short : length t < table_bytes s → Answers (Refused TableShort) t
     unfolding cleared_of table_cleared clear_check
     clears_short h =

@@ -5,7 +5,7 @@ use borrow.Author.Tests.{lt-leb}
 use Rattle.sheet.specs.Reading.{sheet_check}
 use Rattle.sheet.specs.declared.Refusal.{Refusal}
 use Rattle.sheet.specs.declared.Refusal.TheVariants.{TableShort}
-use Rattle.sheet.specs.declared.Check.TheVariants.{Passed, Failed}
+use Rattle.std.specs.Prelude.{Err, Ok}
 use Rattle.judge.specs.Cells.{table_bytes}
 use Rattle.judge.specs.StoredCount.{stored_count}
 use Rattle.judge.specs.Clearing.{clear_check}
@@ -27,11 +27,11 @@ module _ (s t : List ℕ) where
   answers : (r : Counted) → r ≡ counted_of s t → ReadsCount s t r
   answers r e = (e, ap reported_count e)
 
-  pub counts_refused : (x : Refusal) → sheet_check s ≡ Failed x → ReadsCount s t (Refused x)
+  pub counts_refused : (x : Refusal) → sheet_check s ≡ Err x → ReadsCount s t (Refused x)
   unfolding counted_of clear_check
   counts_refused x e = answers (Refused x) (rw e)
 
-  module _ (e : sheet_check s ≡ Passed) where
+  module _ (e : sheet_check s ≡ Ok tt) where
     pub counts_short : length t < table_bytes s → ReadsCount s t (Refused TableShort)
     unfolding counted_of clear_check
     counts_short h = answers (Refused TableShort) (rw (e, lt-leb (table_bytes s) (length t) h))

@@ -5,7 +5,7 @@ use Rattle.sheet.specs.Plan.{state_count}
 use Rattle.sheet.specs.Actions.{entry_count}
 use Rattle.sheet.specs.Rule.{node_count, node_kind, node_x, node_y, binder_node}
 use Rattle.sheet.specs.Reading.{sheet_check}
-use Rattle.sheet.specs.declared.Check.TheVariants.{Passed}
+use Rattle.std.specs.Prelude.{Ok}
 use Rattle.sheet.proofs.Acceptance.Parts.{bodies_kept, rule_kept, few_states, few_nodes}
 use Rattle.sheet.proofs.Checks.Checks.{and_parts}
 use Rattle.rows.specs.Rows.{Row}
@@ -66,7 +66,7 @@ abbrev pub y_at : List ℕ → ℕ → ℕ
 y_at s n = node_y (rule_body s) n
 
 -- a node of an accepted sheet, and the numbers of nodes and marks, as the prepared index has them
-module _ {s index : List ℕ} {st : ℕ} (accepted : sheet_check s ≡ Passed) (p : Prepared s index st) where
+module _ {s index : List ℕ} {st : ℕ} (accepted : sheet_check s ≡ Ok tt) (p : Prepared s index st) where
   pub prepared_node : {n : ℕ} → n < node_count (rule_body s) → NodeAt s index n
   prepared_node h = record { accepted = accepted; offset_is = p.offset_is; node_below = h }
 
@@ -79,7 +79,7 @@ module _ {s index : List ℕ} {st : ℕ} (accepted : sheet_check s ≡ Passed) (
 abbrev pub walk_along : List ℕ → Row Cell → List ℕ → Result
 walk_along s row t = walk (λ d u. result_at s d u) row.connective row.entries t
 
-module _ (s : List ℕ) (accepted : sheet_check s ≡ Passed) where
+module _ (s : List ℕ) (accepted : sheet_check s ≡ Ok tt) where
   pub size_small : cell_bytes s ≤ 57344
   size_small =
       let first : state_count (plan_body s) * node_count (rule_body s) ≤ 128 * 64 =

@@ -4,7 +4,7 @@ use Rattle.sheet.specs.Bytes.{byte}
 use Rattle.sheet.specs.Contents.{head_length, plan_length, plan_body, actions_body, rule_body}
 use Rattle.sheet.specs.Rule.{node_count, binder_count, binder_node, subtree_end}
 use Rattle.sheet.specs.Reading.{sheet_check}
-use Rattle.sheet.specs.declared.Check.TheVariants.{Passed}
+use Rattle.std.specs.Prelude.{Ok}
 use Rattle.sheet.proofs.Acceptance.Parts.{plan_kept, rule_kept, slice_small}
 use Rattle.sheet.proofs.Nodes.Children.{node_subtree}
 use Rattle.sheet.proofs.Nodes.Subtrees.{subtree_end_lem}
@@ -45,7 +45,7 @@ module _ {r old : List ℕ} (asked : EndsAsked r old) {k : ℕ} {index : List �
 
 -- ---- the rule
 
-module _ (s : List ℕ) (e : sheet_check s ≡ Passed) where
+module _ (s : List ℕ) (e : sheet_check s ≡ Ok tt) where
   end_within_holds : (n : ℕ) → n < node_count (rule_body s) → subtree_end (rule_body s) n ≤ 64
   end_within_holds n h =
       let w = node_subtree (rule_kept s e) n h in

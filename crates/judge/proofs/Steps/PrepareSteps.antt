@@ -8,7 +8,7 @@ use Rattle.sheet.specs.Contents.{head_length, plan_length, rule_offset, plan_bod
 use Rattle.sheet.specs.Plan.{state_count, label}
 use Rattle.sheet.specs.Rule.{node_count}
 use Rattle.sheet.specs.Reading.{sheet_check}
-use Rattle.sheet.specs.declared.Check.TheVariants.{Passed}
+use Rattle.std.specs.Prelude.{Ok}
 use Rattle.sheet.proofs.Acceptance.Parts.{plan_kept, rule_kept, few_states, slice_small}
 use Rattle.judge.specs.Cells.{marks}
 use Rattle.judge.specs.Internal.Index.{PreparedState, Prepared, binders_at}
@@ -76,7 +76,7 @@ headed s l o n m size p q r =
       marks_are = get_or-set_same (set (set l 0 o) 1 n) 2 m 0 (omega arith) ∙ r;
     }
 
-pub binders_asked : (s : List ℕ) {r index : List ℕ} → sheet_check s ≡ Passed → r ≡ rule_body s → Headed s index → BindersAsked r index
+pub binders_asked : (s : List ℕ) {r index : List ℕ} → sheet_check s ≡ Ok tt → r ≡ rule_body s → Headed s index → BindersAsked r index
 binders_asked s {r} {index} e rule h =
     subst (λ (x : List ℕ). BindersAsked x index) (sym rule)
     (record { few_nodes = (rule_kept s e).few_nodes; few_binders = (rule_kept s e).few_binders; marks_are = h.marks_are; size = h.size })
@@ -84,7 +84,7 @@ binders_asked s {r} {index} e rule h =
 -- ---- all steps together
 
 -- what the search leaves, of the plan of an accepted sheet
-pub searched : (s : List ℕ) {p index index' : List ℕ} {state : ℕ} {r : Bool} → p ≡ plan_body s → sheet_check s ≡ Passed → ((i : ℕ) → byte s i < 256)
+pub searched : (s : List ℕ) {p index index' : List ℕ} {state : ℕ} {r : Bool} → p ≡ plan_body s → sheet_check s ≡ Ok tt → ((i : ℕ) → byte s i < 256)
     → state < state_count (plan_body s) → length index ≡ index_size
     → (r ≡ found_none (explored p index state)) × (index' ≡ index_left (explored p index state)) → Explored p index index' state r
 searched s {p} {index} {index'} {state} {r} plan e bytes below sized found = explore_right p index index' state r given found.0 found.1
@@ -96,7 +96,7 @@ searched s {p} {index} {index'} {state} {r} plan e bytes below sized found = exp
     given = subst (λ (x : List ℕ). ExploreRequires x index state) (sym plan) here
 
 -- what the search says of a state, with masks in place of ones
-pub prepared_state : (s : List ℕ) → sheet_check s ≡ Passed → {u : ℕ} {searched-index masked : List ℕ} → Indexed (plan_body s) searched-index u
+pub prepared_state : (s : List ℕ) → sheet_check s ≡ Ok tt → {u : ℕ} {searched-index masked : List ℕ} → Indexed (plan_body s) searched-index u
     → Masks (plan_body s) (actions_body s) searched-index masked → PreparedState s masked u
 prepared_state s e {u} k m =
     let small : u < 128 = omega (arith, k.state_below, few_states s e) in
@@ -107,7 +107,7 @@ prepared_state s e {u} k m =
           m.filled (label (plan_body s) i) ((plan_kept s e).label_below i (is_outgoing (plan_body s) (plan_kept s e) u i a b).0) (k.noted i a b);
     }
 
-module _ (s : List ℕ) (e : sheet_check s ≡ Passed) (state : ℕ) where
+module _ (s : List ℕ) (e : sheet_check s ≡ Ok tt) (state : ℕ) where
   steps : {first second third fourth : List ℕ} → Headed s first → Binders (rule_body s) first second → Explored (plan_body s) second third state true → Masks (plan_body s) (actions_body s) third fourth → Prepared s fourth state
   steps {first} {second} {third} {fourth} h b x m =
       let after-head : SameBefore 3 first fourth = λ i l. m.same i (omega arith) ∙ x.same refl i (omega arith) ∙ b.same i l in

@@ -9,7 +9,7 @@ use Rattle.sheet.specs.Plan.{state_count}
 use Rattle.sheet.specs.Reading.{sheet_check}
 use Rattle.sheet.specs.declared.Refusal.{Refusal}
 use Rattle.sheet.specs.declared.Refusal.TheVariants.{NoSuchState, Loop, TableShort, TableByte}
-use Rattle.sheet.specs.declared.Check.TheVariants.{Passed, Failed}
+use Rattle.std.specs.Prelude.{Err, Ok}
 use Rattle.rows.specs.Tables.{byte_at, filled, count, Result, out, verdict, visits, table}
 use Rattle.judge.specs.Cells.{cell, written_rows, enough, position_of, cell_at, cell_bytes, table_bytes, cells_in, count_bytes}
 use Rattle.judge.specs.StoredCount.{in_four_bytes, stored_count, filled_cells, table_with}
@@ -38,19 +38,19 @@ module _ (s : List ℕ) (state : ℕ) (t : List ℕ) where
   answers : (r : Queried) (now : List ℕ) → r ≡ queried_of s state t → now ≡ table_queried s state t → Answers r now
   answers r now e f = (e, (ap reported_query e, f))
 
-  by_check : (x : Refusal) → query_check s state t ≡ Failed x → Answers (Refused x) t
+  by_check : (x : Refusal) → query_check s state t ≡ Err x → Answers (Refused x) t
   unfolding queried_of table_queried
   by_check x e = answers (Refused x) t (rw e) (rw e)
 
-  by_count : query_check s state t ≡ Passed → count_right s t ≡ false → Answers WrongCount t
+  by_count : query_check s state t ≡ Ok tt → count_right s t ≡ false → Answers WrongCount t
   unfolding queried_of table_queried
   by_count e f = answers WrongCount t (rw (e, f)) (rw (e, f))
 
-  pub answers_refused : (x : Refusal) → sheet_check s ≡ Failed x → Answers (Refused x) t
+  pub answers_refused : (x : Refusal) → sheet_check s ≡ Err x → Answers (Refused x) t
   unfolding query_check
   answers_refused x e = by_check x (rw e)
 
-  module _ (e : sheet_check s ≡ Passed) where
+  module _ (e : sheet_check s ≡ Ok tt) where
     pub answers_no_state : state_count (plan_body s) ≤ state → Answers (Refused NoSuchState) t
     unfolding query_check
     answers_no_state h = by_check NoSuchState (rw (e, le-ltb state (state_count (plan_body s)) h))
@@ -113,7 +113,7 @@ module _ {s index : List ℕ} {state : ℕ} (q : QueryRequires s index state) (t
         by_check s state t TableByte
         (rw (q.accepted, lt-ltb state (state_count (plan_body s)) q.state_below, q.loop_free_holds, le-leb (table_bytes s) (length t) l, g))
 
-    passes : bytes_right (cell_bytes s) t ≡ true → query_check s state t ≡ Passed
+    passes : bytes_right (cell_bytes s) t ≡ true → query_check s state t ≡ Ok tt
     unfolding query_check
     passes g = rw (q.accepted, lt-ltb state (state_count (plan_body s)) q.state_below, q.loop_free_holds, le-leb (table_bytes s) (length t) l, g)
 

@@ -7,7 +7,7 @@ use Rattle.sheet.specs.Plan.{state_count}
 use Rattle.sheet.specs.Reading.{sheet_check}
 use Rattle.sheet.specs.declared.Refusal.{Refusal}
 use Rattle.sheet.specs.declared.Refusal.TheVariants.{NoSuchState, Loop, TableShort, TableByte}
-use Rattle.sheet.specs.declared.Check.TheVariants.{Passed, Failed}
+use Rattle.std.specs.Prelude.{Err, Ok}
 use Rattle.sheet.proofs.Acceptance.Parts.{few_states}
 use Rattle.sheet.proofs.Checks.Bools.{differ, fails}
 use Rattle.rows.specs.Rows.{conjunction}
@@ -37,19 +37,19 @@ module _ (s states t : List ℕ) where
   answers : (r : InTurn) (now : List ℕ) → r ≡ in_turn_of s states t → now ≡ table_in_turn s states t → QueriesInTurn s states t r now
   answers r now e f = (e, (ap reported_in_turn e, f))
 
-  by_check : (x : Refusal) → in_turn_check s states t ≡ Failed x → QueriesInTurn s states t (Refused x) t
+  by_check : (x : Refusal) → in_turn_check s states t ≡ Err x → QueriesInTurn s states t (Refused x) t
   unfolding in_turn_of table_in_turn
   by_check x e = answers (Refused x) t (rw e) (rw e)
 
-  by_count : in_turn_check s states t ≡ Passed → count_right s t ≡ false → QueriesInTurn s states t WrongCount t
+  by_count : in_turn_check s states t ≡ Ok tt → count_right s t ≡ false → QueriesInTurn s states t WrongCount t
   unfolding in_turn_of table_in_turn
   by_count e f = answers WrongCount t (rw (e, f)) (rw (e, f))
 
-  pub in_turn_unread : (x : Refusal) → sheet_check s ≡ Failed x → QueriesInTurn s states t (Refused x) t
+  pub in_turn_unread : (x : Refusal) → sheet_check s ≡ Err x → QueriesInTurn s states t (Refused x) t
   unfolding in_turn_check
   in_turn_unread x e = by_check x (rw e)
 
-  module _ (e : sheet_check s ≡ Passed) where
+  module _ (e : sheet_check s ≡ Ok tt) where
     abbrev below : ℕ → Bool
     below state = ltb state (state_count (plan_body s))
 
@@ -71,7 +71,7 @@ module _ (s states t : List ℕ) where
 
 -- ---- the states of the list
 
-pub none_marked : (s : List ℕ) → sheet_check s ≡ Passed → {count : ℕ} → count ≡ state_count (plan_body s) → {starts : List ℕ} → starts ≡ replicate 128 0
+pub none_marked : (s : List ℕ) → sheet_check s ≡ Ok tt → {count : ℕ} → count ≡ state_count (plan_body s) → {starts : List ℕ} → starts ≡ replicate 128 0
     → MarkRequires count starts
 none_marked s accepted is e = record {
   few = omega (arith, few_states s accepted);
@@ -79,7 +79,7 @@ none_marked s accepted is e = record {
   none = λ u h. h (ap (λ (l : List ℕ). get_or l u 0) e ∙ colourless 128 u);
 }
 
-module _ (s : List ℕ) {states : List ℕ} (accepted : sheet_check s ≡ Passed) {count : ℕ} (is : count ≡ state_count (plan_body s))
+module _ (s : List ℕ) {states : List ℕ} (accepted : sheet_check s ≡ Ok tt) {count : ℕ} (is : count ≡ state_count (plan_body s))
     {starts : List ℕ} {b : Bool} (m : StatesMarked states count starts b) where
   pub one_missing : b ≡ false → (t : List ℕ) → QueriesInTurn s states t (Refused NoSuchState) t
   one_missing e t = go m
@@ -125,7 +125,7 @@ module _ (s : List ℕ) {states : List ℕ} (accepted : sheet_check s ≡ Passed
 
 -- of an accepted sheet, all states of the list are there, and no loop can be reached from any
 pub record StatesTaken (s states : List ℕ) : Type 0 where
-  pub accepted : sheet_check s ≡ Passed
+  pub accepted : sheet_check s ≡ Ok tt
   pub there : (u : ℕ) → Memᴰ u states → u < state_count (plan_body s)
   pub free : (u : ℕ) → Memᴰ u states → loop_free (plan_body s) u ≡ true
 
@@ -148,7 +148,7 @@ module _ {s states : List ℕ} (p : StatesTaken s states) (t : List ℕ) where
     unfolding in_turn_check
     in_turn_bad_byte g = by_check s states t TableByte (rw (p.accepted, states_below_lem, states_free, le-leb (table_bytes s) (length t) l, g))
 
-    pub passes : bytes_right (cell_bytes s) t ≡ true → in_turn_check s states t ≡ Passed
+    pub passes : bytes_right (cell_bytes s) t ≡ true → in_turn_check s states t ≡ Ok tt
     unfolding in_turn_check
     passes g = rw (p.accepted, states_below_lem, states_free, le-leb (table_bytes s) (length t) l, g)
 

@@ -1,11 +1,10 @@
 -- What the code of an audit works with, asks and promises.
-use Rattle.std.specs.Prelude.{◌≡◌, ℕ, zero, suc, ◌+◌, ◌*◌, ◌<◌, ◌≤◌, Bool, true, false, ◌&&◌, ◌≢◌, List, length, nat_lt, slice_index}
+use Rattle.std.specs.Prelude.{◌≡◌, ℕ, zero, suc, ◌+◌, ◌*◌, ◌<◌, ◌≤◌, Bool, true, false, ◌&&◌, ◌≢◌, List, length, nat_lt, slice_index, Ok}
 use Rattle.sheet.specs.Bytes.{pick}
 use Rattle.sheet.specs.Contents.{plan_body, actions_body, rule_body}
 use Rattle.sheet.specs.Plan.{state_count, action_count}
 use Rattle.sheet.specs.Rule.{node_count, node_x, node_y}
 use Rattle.sheet.specs.Reading.{sheet_check}
-use Rattle.sheet.specs.declared.Check.TheVariants.{Passed}
 use Rattle.sheet.specs.TransitionSystem.{plan_of}
 use Rattle.rows.specs.Tables.{byte_at, filled, known, count}
 use Rattle.rows.specs.FollowsFrom.{enough_filled_with, follows_from}
@@ -66,7 +65,7 @@ table_passes s t = every_below (state_count (plan_body s)) (λ state. state_pass
 
 -- an accepted sheet, a table of it with bytes of at most 2, and all prepared for the rows at a state from which no loop can be reached
 pub record StateRequires (s index t : List ℕ) (state : ℕ) : Type 0 where
-  pub accepted : sheet_check s ≡ Passed
+  pub accepted : sheet_check s ≡ Ok tt
   pub rule_told : RuleTold s index
   pub prepared : Prepared s index state
   pub state_below : state < state_count (plan_body s)
@@ -83,7 +82,7 @@ pub record CellRequires (s index t : List ℕ) (c : Cell) (b : ℕ) : Type 0 whe
 
 -- all prepared for each state that starts names, and no cell of another is filled
 pub record CellsRequires (s index t starts : List ℕ) : Type 0 where
-  pub accepted : sheet_check s ≡ Passed
+  pub accepted : sheet_check s ≡ Ok tt
   pub started : (u : ℕ) → StartsFrom starts u → StateRequires s index t u
   pub others :
       (c : Cell) → c.state < state_count (plan_body s) → c.node < node_count (rule_body s) → c.mark < marks (rule_body s)
@@ -117,7 +116,7 @@ pub data StatesScanned (cells : List ℕ) (states width : ℕ) (r : Scanned) (st
 
 -- an accepted sheet, with what is prepared of its rule, and a table that is long enough
 pub record LongTableRequires (s index t : List ℕ) (cells : ℕ) : Type 0 where
-  pub accepted : sheet_check s ≡ Passed
+  pub accepted : sheet_check s ≡ Ok tt
   pub rule_told : RuleTold s index
   pub cells_are : cells ≡ cell_bytes s
   pub long : table_bytes s ≤ length t

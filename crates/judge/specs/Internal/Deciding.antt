@@ -1,11 +1,10 @@
 -- What deciding a cell and following its transitions ask and promise.
-use Rattle.std.specs.Prelude.{◌≡◌, ℕ, ◌<◌, ◌≤◌, true, List, length, ◌==◌}
+use Rattle.std.specs.Prelude.{◌≡◌, ℕ, ◌<◌, ◌≤◌, true, List, length, ◌==◌, Ok}
 use Rattle.sheet.specs.Bytes.{pick}
 use Rattle.sheet.specs.Contents.{plan_body, actions_body, rule_body}
 use Rattle.sheet.specs.Plan.{state_count, action_count}
 use Rattle.sheet.specs.Rule.{node_count, node_kind, node_x, node_y}
 use Rattle.sheet.specs.Reading.{sheet_check}
-use Rattle.sheet.specs.declared.Check.TheVariants.{Passed}
 use Rattle.sheet.specs.TransitionSystem.{plan_of}
 use Rattle.rows.specs.Rows.{Connective, disjunction, conjunction}
 use Rattle.rows.specs.Tables.{Result, out}
@@ -19,7 +18,7 @@ use Rattle.judge.specs.Internal.Packed.{verdict_in, visits_in, packed_bound, pac
 
 -- a cell of an accepted sheet, at a state from which no loop can be reached, with what is prepared and a table that has all cells
 pub record DecideRequires (s index t : List ℕ) (c : Cell) : Type 0 where
-  pub accepted : sheet_check s ≡ Passed
+  pub accepted : sheet_check s ≡ Ok tt
   pub prepared : Prepared s index c.state
   pub room : cell_bytes s ≤ length t
   pub node_below : c.node < node_count (rule_body s)
@@ -29,7 +28,7 @@ pub record DecideRequires (s index t : List ℕ) (c : Cell) : Type 0 where
 
 -- a "some" or "every" node at such a state
 pub record FollowRequires (s index t : List ℕ) (n state : ℕ) : Type 0 where
-  pub accepted : sheet_check s ≡ Passed
+  pub accepted : sheet_check s ≡ Ok tt
   pub prepared : Prepared s index state
   pub room : cell_bytes s ≤ length t
   pub node_below : n < node_count (rule_body s)

@@ -1,11 +1,10 @@
 -- The index prepared for a query or an audit: its layout, and what it holds. The first places are set here, those from
 -- firsts_at on by the search (specs/Index.antt of the crate graph).
-use Rattle.std.specs.Prelude.{◌≡◌, ℕ, ◌+◌, ◌<◌, ◌≤◌, true, List, slice_index, slice_index_or}
+use Rattle.std.specs.Prelude.{◌≡◌, ℕ, ◌+◌, ◌<◌, ◌≤◌, true, List, slice_index, slice_index_or, Ok}
 use Rattle.sheet.specs.Contents.{plan_body, actions_body, rule_body, rule_offset}
 use Rattle.sheet.specs.Plan.{state_count, action_count, transition_count, label}
 use Rattle.sheet.specs.Rule.{node_count, binder_count, binder_node}
 use Rattle.sheet.specs.Reading.{sheet_check}
-use Rattle.sheet.specs.declared.Check.TheVariants.{Passed}
 use Rattle.calculus.specs.MeetingMask.{meeting_mask}
 use Rattle.graph.specs.Loops.{Reachable}
 use Rattle.graph.specs.LoopTest.{loop_free}
@@ -53,14 +52,14 @@ pub record Prepared (s index : List ℕ) (state : ℕ) : Type 0 where
 
 -- a state of an accepted sheet from which no loop can be reached, with what is prepared for its query
 pub record QueryRequires (s index : List ℕ) (state : ℕ) : Type 0 where
-  pub accepted : sheet_check s ≡ Passed
+  pub accepted : sheet_check s ≡ Ok tt
   pub state_below : state < state_count (plan_body s)
   pub loop_free_holds : loop_free (plan_body s) state ≡ true
   pub prepared : Prepared s index state
 
 -- an accepted sheet, and an index that says how many nodes and marks it has
 pub record HeadRight (s index : List ℕ) : Type 0 where
-  pub accepted : sheet_check s ≡ Passed
+  pub accepted : sheet_check s ≡ Ok tt
   pub nodes_are : slice_index_or index nodes_at 0 ≡ node_count (rule_body s)
   pub marks_are : slice_index_or index marks_at 0 ≡ marks (rule_body s)
 
@@ -72,11 +71,11 @@ pub record BinderAt (index : List ℕ) (k : ℕ) : Type 0 where
 
 -- a node of an accepted sheet, and where its rule lies
 pub record NodeAt (s index : List ℕ) (n : ℕ) : Type 0 where
-  pub accepted : sheet_check s ≡ Passed
+  pub accepted : sheet_check s ≡ Ok tt
   pub offset_is : slice_index_or index rule_at 0 ≡ rule_offset s
   pub node_below : n < node_count (rule_body s)
 
 -- a transition of an accepted sheet
 pub record TransitionAt (s : List ℕ) (i : ℕ) : Type 0 where
-  pub accepted : sheet_check s ≡ Passed
+  pub accepted : sheet_check s ≡ Ok tt
   pub among : i < transition_count (plan_body s)

@@ -1,11 +1,10 @@
 -- What each step of preparing a query or an audit leaves in the index, but for the search (crate graph). Each fills places from one on, and
 -- keeps those before it.
-use Rattle.std.specs.Prelude.{◌≡◌, ℕ, ◌+◌, ◌<◌, ◌≤◌, Bool, true, false, List, length, slice_index, slice_index_or}
+use Rattle.std.specs.Prelude.{◌≡◌, ℕ, ◌+◌, ◌<◌, ◌≤◌, Bool, true, false, List, length, slice_index, slice_index_or, Ok}
 use Rattle.sheet.specs.Contents.{plan_body, rule_body, rule_offset}
 use Rattle.sheet.specs.Plan.{state_count, action_count}
 use Rattle.sheet.specs.Rule.{node_count, binder_count, binder_node, subtree_end}
 use Rattle.sheet.specs.Reading.{sheet_check}
-use Rattle.sheet.specs.declared.Check.TheVariants.{Passed}
 use Rattle.calculus.specs.MeetingMask.{meeting_mask}
 use Rattle.graph.specs.Index.{index_size, actions_at}
 use Rattle.graph.specs.Explored.{SameBefore, StartsFrom}
@@ -69,7 +68,7 @@ pub record RuleTold (s index : List ℕ) : Type 0 where
       (k : ℕ) → k < binder_count (rule_body s) → slice_index index (ends_at + k) ≡ subtree_end (rule_body s) (binder_node (rule_body s) k)
 
 pub record StatesAsked (s index starts : List ℕ) : Type 0 where
-  pub accepted : sheet_check s ≡ Passed
+  pub accepted : sheet_check s ≡ Ok tt
   pub rule_told : RuleTold s index
   pub starts_below : (u : ℕ) → StartsFrom starts u → u < state_count (plan_body s)
 

@@ -1,9 +1,8 @@
 -- What the code of queries in turn asks and promises.
-use Rattle.std.specs.Prelude.{◌≡◌, ℕ, ◌<◌, ◌≤◌, Bool, true, false, List, length}
+use Rattle.std.specs.Prelude.{◌≡◌, ℕ, ◌<◌, ◌≤◌, Bool, true, false, List, length, Ok}
 use mathlib.Core.List.{Memᴰ}
 use Rattle.sheet.specs.Contents.{rule_body}
 use Rattle.sheet.specs.Reading.{sheet_check}
-use Rattle.sheet.specs.declared.Check.TheVariants.{Passed}
 use Rattle.rows.specs.Rows.{conjunction, value}
 use Rattle.rows.specs.Tables.{Result, visits, table, changed}
 use Rattle.rows.specs.Internal.Solver.{walk}
@@ -33,7 +32,7 @@ pub data StatesMarked (states : List ℕ) (count : ℕ) (starts : List ℕ) (b :
 
 -- an accepted sheet, with what is prepared of its rule and for a query of each state of the list
 pub record EachPrepared (s index states : List ℕ) : Type 0 where
-  pub accepted : sheet_check s ≡ Passed
+  pub accepted : sheet_check s ≡ Ok tt
   pub rule_told : RuleTold s index
   pub each : (u : ℕ) → Memᴰ u states → QueryRequires s index u
 

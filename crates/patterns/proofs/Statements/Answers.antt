@@ -10,8 +10,8 @@ use borrow.Author.Tests.{le-leb, lt-leb}
 use Rattle.sheet.specs.Contents.{actions_body}
 use Rattle.sheet.specs.Actions.{entry_count}
 use Rattle.sheet.specs.Reading.{sheet_check}
-use Rattle.sheet.specs.declared.Check.{Check}
-use Rattle.sheet.specs.declared.Check.TheVariants.{Passed, Failed}
+use Rattle.std.specs.Prelude.{Err, Ok}
+use Rattle.sheet.specs.Refusals.{Check}
 use Rattle.sheet.specs.declared.Refusal.{Refusal}
 use Rattle.sheet.specs.declared.Refusal.TheVariants.{OutputShort}
 use Rattle.calculus.specs.Trees.{Tree, tree_size, binders, encode}
@@ -72,12 +72,12 @@ module _ (s p : List ℕ) where
     unfolding translated_of
     sheet_answer c e = ap (λ (x : Check). answer_sheet s p x room) e
 
-    pub answers_refused : {x : Refusal} → sheet_check s ≡ Failed x → translated_of s p room ≡ Refused x
-    answers_refused {x} e = sheet_answer (Failed x) e
+    pub answers_refused : {x : Refusal} → sheet_check s ≡ Err x → translated_of s p room ≡ Refused x
+    answers_refused {x} e = sheet_answer (Err x) e
 
-    module _ (passed : sheet_check s ≡ Passed) where
+    module _ (passed : sheet_check s ≡ Ok tt) where
       reading_answer : (r : Reading) → reading_on ≡ r → translated_of s p room ≡ answer_reading s r room
-      reading_answer r q = sheet_answer Passed passed ∙ ap (λ (x : Reading). answer_reading s x room) q
+      reading_answer r q = sheet_answer (Ok tt) passed ∙ ap (λ (x : Reading). answer_reading s x room) q
 
       pub answers_malformed : reading_on ≡ malformed → translated_of s p room ≡ Malformed
       answers_malformed q = reading_answer malformed q

@@ -14,8 +14,8 @@ use Rattle.sheet.specs.Refusals.{number_of, place_of, reported_check}
 use Rattle.sheet.specs.Reading.{sheet_check}
 use Rattle.sheet.specs.WellFormed.{WellFormedSheet}
 use Rattle.sheet.specs.RefusalOrder.{SheetFault, First}
-use Rattle.sheet.specs.declared.Check.{Check}
-use Rattle.sheet.specs.declared.Check.TheVariants.{Passed, Failed}
+use Rattle.std.specs.Prelude.{Err, Ok}
+use Rattle.sheet.specs.Refusals.{Check}
 use Rattle.sheet.specs.declared.Refusal.TheVariants.{OutputShort}
 use Rattle.sheet.proofs.Acceptance.Numbers.{refused_number}
 use Rattle.sheet.proofs.Acceptance.Order.{refusals_in_order, sheet_range}
@@ -48,7 +48,7 @@ use Rattle.patterns.proofs.Statements.Answers.{
 use Rattle.patterns.proofs.Statements.NewRule.{means_sentence}
 
 module _ (s p : List ℕ) where
-  passed : WellFormedSheet s → sheet_check s ≡ Passed
+  passed : WellFormedSheet s → sheet_check s ≡ Ok tt
   passed = (accepted_iff s).1
 
   -- what a pattern says is its reading
@@ -89,8 +89,8 @@ module _ (s p : List ℕ) where
     by_reading kept (readable every R) q = by_size (says kept q)
 
     by_sheet : (c : Check) → sheet_check s ≡ c → Decided
-    by_sheet Passed e = by_reading ((accepted_iff s).0 e) (reading_on s p) refl
-    by_sheet (Failed x) e =
+    by_sheet (Ok tt) e = by_reading ((accepted_iff s).0 e) (reading_on s p) refl
+    by_sheet (Err x) e =
         inl (
           number_of x,
           place_of x,
@@ -117,8 +117,8 @@ module _ (s p : List ℕ) where
       where
         by_check : (c : Check) → sheet_check s ≡ c → 1 ≤ k
             → ((reported_check (sheet_check s)).number ≡ k) × ((reported_check (sheet_check s)).place ≡ m) → Reports k m
-        by_check Passed e low q = absurd (omega (arith, q.0, ap (λ (c : Check). (reported_check c).number) e))
-        by_check (Failed x) e low q =
+        by_check (Ok tt) e low q = absurd (omega (arith, q.0, ap (λ (c : Check). (reported_check c).number) e))
+        by_check (Err x) e low q =
             let r = reports (Refused x) (refused_number x) (answers_refused s p room e) in (
               low,
               r.1 ∙ sym (ap (λ (c : Check). (reported_check c).number) e) ∙ q.0,

@@ -8,7 +8,7 @@ use Rattle.sheet.specs.Contents.{actions_body, rule_body}
 use Rattle.sheet.specs.Actions.{entry_count}
 use Rattle.sheet.specs.Reading.{sheet_check}
 use Rattle.sheet.specs.WellFormed.{WellFormedRule}
-use Rattle.sheet.specs.declared.Check.TheVariants.{Passed, Failed}
+use Rattle.std.specs.Prelude.{Err, Ok}
 use Rattle.sheet.specs.declared.Refusal.{Refusal}
 use Rattle.sheet.proofs.Acceptance.Parts.{actions_kept, rule_kept}
 use Rattle.patterns.specs.Patterns.{Reading, malformed, readable, reading_of}
@@ -32,17 +32,17 @@ pub readable_is : (s p : List ℕ) {a : List ℕ} {entries : ℕ} {b c : Bool} �
     → b ≡ c → is_readable (reading_on s p) ≡ c
 readable_is s p i j k l = ap (λ (n : ℕ). is_readable (reading_of n p)) (sym (j ∙ ap entry_count i)) ∙ sym k ∙ l
 
-pub translates_refused : (s p out : List ℕ) {x : Refusal} → sheet_check s ≡ Failed x → Translates s p out (Refused x) out
+pub translates_refused : (s p out : List ℕ) {x : Refusal} → sheet_check s ≡ Err x → Translates s p out (Refused x) out
 translates_refused s p out {x} e = answered s p out (Refused x) (sym (answers_refused s p (length out) e)) refl
 
-pub translates_malformed : (s p out : List ℕ) → sheet_check s ≡ Passed → is_readable (reading_on s p) ≡ false → Translates s p out Malformed out
+pub translates_malformed : (s p out : List ℕ) → sheet_check s ≡ Ok tt → is_readable (reading_on s p) ≡ false → Translates s p out Malformed out
 translates_malformed s p out passed q = answered s p out Malformed (sym (answers_malformed s p (length out) passed (none (reading_on s p) q))) refl
   where
     none : (r : Reading) → is_readable r ≡ false → r ≡ malformed
     none malformed e = refl
     none (readable every R) e = absurd (false≢true (sym e))
 
-module _ (s p : List ℕ) (passed : sheet_check s ≡ Passed) (q : is_readable (reading_on s p) ≡ true) where
+module _ (s p : List ℕ) (passed : sheet_check s ≡ Ok tt) (q : is_readable (reading_on s p) ≡ true) where
   pub call_readable : {r : List ℕ} → r ≡ rule_body s → Readable r p
   call_readable {r = body} e =
       let r = readable_bytes (reading_on s p) q in

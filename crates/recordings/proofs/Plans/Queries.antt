@@ -16,7 +16,7 @@ use Rattle.sheet.specs.Contents.{plan_body, actions_body, rule_body}
 use Rattle.sheet.specs.Plan.{state_count, action_count}
 use Rattle.sheet.specs.Reading.{sheet_check}
 use Rattle.sheet.specs.WellFormed.{WellFormedSheet}
-use Rattle.sheet.specs.declared.Check.TheVariants.{Passed}
+use Rattle.std.specs.Prelude.{Ok}
 use Rattle.sheet.proofs.Checks.Bools.{together}
 use Rattle.graph.specs.Loops.{LoopReachable}
 use Rattle.graph.specs.Successors.{successors}
@@ -47,7 +47,7 @@ holds_exactly s run below =
     eval_meaning (chain A run) (chain_in_range A run below) (formula (actions_body s) (rule_body s) 0) empty_context 0 (omega arith)
 
 -- a query of state 0 on a table of zeros, of an accepted sheet from whose state 0 no loop can be reached, tells Table 1's verdict
-module _ (s : List ℕ) (n : ℕ) (passed : sheet_check s ≡ Passed) (fits : table_bytes s ≤ n) where
+module _ (s : List ℕ) (n : ℕ) (passed : sheet_check s ≡ Ok tt) (fits : table_bytes s ≤ n) where
   abbrev zeros : List ℕ
   zeros = replicate n 0
 
@@ -81,7 +81,7 @@ module _ (s : List ℕ) (n : ℕ) (passed : sheet_check s ≡ Passed) (fits : ta
       accepts (inr l) = none l
 
 -- the table of an accepted sheet fits into the size that is made for it
-room_fits : (s : List ℕ) → sheet_check s ≡ Passed → table_bytes s ≤ table_room (table_bytes s)
+room_fits : (s : List ℕ) → sheet_check s ≡ Ok tt → table_bytes s ≤ table_room (table_bytes s)
 room_fits s passed = fits (table_bytes s) (every_table_fits s passed).1 (leb (table_bytes s) small_table) (leb (table_bytes s) middle_table) refl refl
   where
     fits : (n : ℕ) → n ≤ largest_table → (a b : Bool) → leb n small_table ≡ a → leb n middle_table ≡ b

@@ -11,7 +11,7 @@ use Rattle.sheet.specs.Plan.{state_count, action_count}
 use Rattle.sheet.specs.Reading.{sheet_check}
 use Rattle.sheet.specs.TransitionSystem.{Plan, plan_of}
 use Rattle.sheet.specs.WellFormed.{WellFormedBodies, WellFormedSheet}
-use Rattle.sheet.specs.declared.Check.TheVariants.{Passed}
+use Rattle.std.specs.Prelude.{Ok}
 use Rattle.sheet.proofs.Acceptance.Sheet.{bodies_iff, body_lengths}
 use Rattle.sheet.proofs.Roundtrip.RoundTrip.{written_length, written_accepted, plan_back, actions_back, rule_back}
 use Rattle.calculus.specs.Decode.{formula}
@@ -41,7 +41,7 @@ module _ (s : List ℕ) (k : WellFormedSheet s) (run : List ℕ) (r : WellFormed
         rule_kept = k.bodies_kept.rule_kept;
       }
 
-  pub chain_passed : sheet_check (chain_sheet s run) ≡ Passed
+  pub chain_passed : sheet_check (chain_sheet s run) ≡ Ok tt
   unfolding chain_sheet
   chain_passed = written_accepted body (actions_body s) (rule_body s) ((bodies_iff body (actions_body s) (rule_body s)).1 bodies)
 

@@ -17,8 +17,8 @@ use Rattle.sheet.specs.RefusalOrder.{GivenInOrder}
 use Rattle.sheet.specs.Refusals.{number_of, place_of}
 use Rattle.sheet.specs.WellFormed.{WellFormedSheet}
 use Rattle.sheet.specs.declared.Refusal.{Refusal}
-use Rattle.sheet.specs.declared.Check.{Check}
-use Rattle.sheet.specs.declared.Check.TheVariants.{Passed, Failed}
+use Rattle.std.specs.Prelude.{Err, Ok}
+use Rattle.sheet.specs.Refusals.{Check}
 use Rattle.sheet.proofs.Acceptance.Numbers.{low_refusal, refused_number}
 use Rattle.sheet.proofs.Acceptance.Order.{given_in_order}
 use Rattle.sheet.proofs.Acceptance.Sheet.{accepted_iff, not_refused}
@@ -47,7 +47,7 @@ pub data Found (s first second : List ℕ) : Answer → Type 0 where
 
 -- all cases, with what is answered in each
 pub data Outcome (s first second : List ℕ) : Answer → Type 0 where
-  unread : (x : Refusal) → sheet_check s ≡ Failed x → Outcome s first second (Refused x)
+  unread : (x : Refusal) → sheet_check s ≡ Err x → Outcome s first second (Refused x)
   long : WellFormedSheet s → LongRun first second → Outcome s first second RunTooLong
   over : WellFormedSheet s → (LongRun first second → ⊥) → ActionOver s first second → Outcome s first second NoSuchAction
   judged : {answer : Answer} → NotRefused s first second → Found s first second answer → Outcome s first second answer
@@ -140,9 +140,9 @@ module _ (s first second : List ℕ) where
 
   by_sheet : (c : Check) → sheet_check s ≡ c
       → Outcome s first second (answer_sheet c (answer_accepted s first second))
-  by_sheet Passed e =
+  by_sheet (Ok tt) e =
       by_lengths ((accepted_iff s).0 e) (leb (length first) most_actions) (leb (length second) most_actions) refl refl
-  by_sheet (Failed x) e = unread x e
+  by_sheet (Err x) e = unread x e
 
   pub outcome : Outcome s first second (shortest_of s first second)
   unfolding shortest_of

@@ -11,7 +11,7 @@ use Rattle.sheet.specs.Contents.{plan_body}
 use Rattle.sheet.specs.Plan.{action_count}
 use Rattle.sheet.proofs.Checks.Seeking.{Seeking, seek_start, seek_here, seek_next, seek_end}
 use Rattle.sheet.specs.Reading.{sheet_check}
-use Rattle.sheet.specs.declared.Check.TheVariants.{Passed, Failed}
+use Rattle.std.specs.Prelude.{Err, Ok}
 use Rattle.sheet.specs.declared.Refusal.{Refusal}
 use Rattle.recordings.specs.Shortest.{fails_at, over_at, actions_below, either_fails, fewest, answer_found, answer_accepted, shortest_of}
 use Rattle.recordings.specs.Runs.{most_actions, WellFormedRun}
@@ -106,10 +106,10 @@ module _ (s first second : List ℕ) where
 
 -- any bytes
 module _ (s first second : List ℕ) where
-  pub unread : (x : Refusal) → sheet_check s ≡ Failed x → Refused x ≡ shortest_of s first second
+  pub unread : (x : Refusal) → sheet_check s ≡ Err x → Refused x ≡ shortest_of s first second
   unfolding shortest_of
   unread x e = rw e refl
 
-  pub read : sheet_check s ≡ Passed → {r : Answer} → r ≡ answer_accepted s first second → r ≡ shortest_of s first second
+  pub read : sheet_check s ≡ Ok tt → {r : Answer} → r ≡ answer_accepted s first second → r ≡ shortest_of s first second
   unfolding shortest_of
   read e f = f ∙ rw e refl

@@ -1,9 +1,8 @@
 -- How the sheet of a chain is put together. Contracts of private functions cite it; no promise of a public call does.
-use Rattle.std.specs.Prelude.{ℕ, suc, ◌+◌, ◌*◌, ◌≡◌, List, [], ◌∷◌}
+use Rattle.std.specs.Prelude.{ℕ, suc, ◌+◌, ◌*◌, ◌≡◌, List, [], ◌∷◌, Ok}
 use Rattle.sheet.specs.Contents.{head_length}
 use Rattle.sheet.specs.Reading.{sheet_check}
 use Rattle.sheet.specs.Writing.{two_bytes}
-use Rattle.sheet.specs.declared.Check.TheVariants.{Passed}
 use Rattle.recordings.specs.Runs.{most_actions, WellFormedRun}
 use Rattle.recordings.specs.RunAsSheet.{chain_bytes}
 
@@ -21,6 +20,6 @@ chain_head A n = suc n ∷ A ∷ two_bytes n []
 
 -- an accepted sheet, and a run that is not refused, with the bytes of its transitions
 pub record Judgeable (s run bytes : List ℕ) : Type 0 where
-  pub passed : sheet_check s ≡ Passed
+  pub passed : sheet_check s ≡ Ok tt
   pub kept : WellFormedRun s run
   pub bytes_are : bytes ≡ chain_bytes 0 run

@@ -11,10 +11,10 @@ use Rattle.sheet.specs.Bytes.{pick}
 use Rattle.sheet.specs.Contents.{plan_body}
 use Rattle.sheet.specs.Plan.{state_count}
 use Rattle.sheet.specs.Reading.{sheet_check}
-use Rattle.sheet.specs.declared.Check.TheVariants.{Passed, Failed}
+use Rattle.std.specs.Prelude.{Err, Ok}
+use Rattle.sheet.specs.Refusals.{Check}
 use Rattle.sheet.specs.declared.Refusal.{Refusal}
 use Rattle.sheet.specs.declared.Refusal.TheVariants.{TooManyStates}
-use Rattle.sheet.specs.declared.Check.{Check}
 use Rattle.sheet.specs.Refusals.{number_of}
 use Rattle.sheet.specs.WellFormed.{WellFormedSheet}
 use Rattle.sheet.proofs.Acceptance.Numbers.{low_refusal, refused_number}
@@ -33,20 +33,20 @@ use Rattle.reference.proofs.Words.Words.{word_bit, word_high}
 
 module _ (s : List ℕ) where
   -- the promised answer, case by case
-  pub promised_refused : (x : Refusal) → sheet_check s ≡ Failed x → Refused x ≡ reference_of s
+  pub promised_refused : (x : Refusal) → sheet_check s ≡ Err x → Refused x ≡ reference_of s
   unfolding reference_of
   promised_refused x e = ap (answer_reference s) (sym e)
 
-  pub promised_large : sheet_check s ≡ Passed → 64 < state_count (plan_body s) → Refused TooManyStates ≡ reference_of s
+  pub promised_large : sheet_check s ≡ Ok tt → 64 < state_count (plan_body s) → Refused TooManyStates ≡ reference_of s
   unfolding reference_of
   promised_large e h = ap (λ (b : Bool). pick b (Refused TooManyStates) (Word (meaning_word s))) (sym (lt-ltb 64 (state_count (plan_body s)) h)) ∙ ap (answer_reference s) (sym e)
 
-  pub promised_word : sheet_check s ≡ Passed → state_count (plan_body s) ≤ 64 → Word (meaning_word s) ≡ reference_of s
+  pub promised_word : sheet_check s ≡ Ok tt → state_count (plan_body s) ≤ 64 → Word (meaning_word s) ≡ reference_of s
   unfolding reference_of
   promised_word e h = ap (λ (b : Bool). pick b (Refused TooManyStates) (Word (meaning_word s))) (sym (le-ltb 64 (state_count (plan_body s)) h)) ∙ ap (answer_reference s) (sym e)
 
   -- the bits of the promised word
-  word_bits : sheet_check s ≡ Passed → (t : ℕ) → (bit (meaning_word s) t ≡ true) ↔ Verdict s t
+  word_bits : sheet_check s ≡ Ok tt → (t : ℕ) → (bit (meaning_word s) t ≡ true) ↔ Verdict s t
   unfolding meaning_word in_meaning
   word_bits e t = (to, λ v. let l = verdict_below s t v in word_bit (state_count (plan_body s)) (in_meaning s) t l ∙ (verdict_decided (sheet_kept s e) t l).0 v)
     where
@@ -89,7 +89,7 @@ module _ (s : List ℕ) where
           × (((reference_report_of s).number ≡ 13) ↔ (WellFormedSheet s × (64 < state_count (plan_body s))))
 
       by_check : (c : Check) → sheet_check s ≡ c → Numbers
-      by_check Passed e =
+      by_check (Ok tt) e =
           elim (dec_lt 64 (state_count (plan_body s))) [
             | yes h ↦ (
               (λ q. absurd (omega (arith, number (promised_large e h))), λ w. absurd (omega (arith, w.1))),
@@ -100,7 +100,7 @@ module _ (s : List ℕ) where
               (λ q. absurd (omega (arith, number (promised_word e (omega arith)))), λ w. absurd (omega (arith, w.1))),
             )
           ]
-      by_check (Failed x) e =
+      by_check (Err x) e =
           let n : (reference_report_of s).number ≡ number_of x = number (promised_refused x e) in (
             (λ q. absurd (omega (arith, refused_number x)), λ w. absurd (not_refused s e w.0)),
             (λ q. absurd (omega (arith, low_refusal s e)), λ w. absurd (not_refused s e w.0)),

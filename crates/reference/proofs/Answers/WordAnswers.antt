@@ -12,7 +12,7 @@ use Rattle.sheet.specs.Contents.{plan_body, actions_body, rule_body}
 use Rattle.sheet.specs.Plan.{state_count, action_count}
 use Rattle.sheet.specs.Rule.{node_count, node_kind, node_x}
 use Rattle.sheet.specs.Reading.{sheet_check}
-use Rattle.sheet.specs.declared.Check.TheVariants.{Passed, Failed}
+use Rattle.std.specs.Prelude.{Err, Ok}
 use Rattle.sheet.specs.declared.Refusal.{Refusal}
 use Rattle.sheet.specs.declared.Refusal.TheVariants.{TooManyStates}
 use Rattle.sheet.specs.WellFormed.{WellFormedSheet}
@@ -67,13 +67,13 @@ module _ (s : List ℕ) where
   promised : {r : Reference} → r ≡ reference_of s → References s r
   promised q = (q, ap reported_reference q)
 
-  pub answer_refused : (x : Refusal) → sheet_check s ≡ Failed x → References s (Refused x)
+  pub answer_refused : (x : Refusal) → sheet_check s ≡ Err x → References s (Refused x)
   answer_refused x e = promised (promised_refused s x e)
 
-  pub start_asked : sheet_check s ≡ Passed → (r : List ℕ) → r ≡ rule_body s → Restartable r 0 8
+  pub start_asked : sheet_check s ≡ Ok tt → (r : List ℕ) → r ≡ rule_body s → Restartable r 0 8
   start_asked e r rule = restartable (sheet_kept s e) rule 0 8 (sheet_kept s e).bodies_kept.rule_kept.some_nodes (omega arith) (omega arith)
 
-  module _ (e : sheet_check s ≡ Passed) (p : List ℕ) (plan : p ≡ plan_body s) (count : ℕ) (states : count ≡ state_count p) where
+  module _ (e : sheet_check s ≡ Ok tt) (p : List ℕ) (plan : p ≡ plan_body s) (count : ℕ) (states : count ≡ state_count p) where
     count_is : count ≡ state_count (plan_body s)
     count_is = states ∙ ap state_count plan
 

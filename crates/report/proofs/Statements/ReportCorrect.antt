@@ -14,8 +14,8 @@ use Rattle.sheet.specs.RunningCalls.{AllBytes}
 use Rattle.sheet.specs.Reading.{sheet_check}
 use Rattle.sheet.specs.declared.Refusal.{Refusal}
 use Rattle.sheet.specs.declared.Refusal.TheVariants.{TableShort, OutputShort}
-use Rattle.sheet.specs.declared.Check.{Check}
-use Rattle.sheet.specs.declared.Check.TheVariants.{Passed, Failed}
+use Rattle.std.specs.Prelude.{Err, Ok}
+use Rattle.sheet.specs.Refusals.{Check}
 use Rattle.sheet.proofs.Acceptance.Numbers.{refused_number, low_refusal}
 use Rattle.judge.specs.Cells.{table_bytes}
 use Rattle.judge.specs.StoredCount.{stored_count}
@@ -38,24 +38,24 @@ room s states t bytes few just =
 
 module _ (s t : List ℕ) where
   -- what clearing refuses has a number from 1 to 10, or 20
-  clearing_number : (x : Refusal) → clear_check s t ≡ Failed x → (number_of x ≤ 10) ⊎ (number_of x ≡ 20)
+  clearing_number : (x : Refusal) → clear_check s t ≡ Err x → (number_of x ≤ 10) ⊎ (number_of x ≡ 20)
   unfolding clear_check
   clearing_number x e = go (sheet_check s) refl (leb (table_bytes s) (length t)) e
     where
       number : Check → ℕ
-      number Passed = 0
-      number (Failed y) = number_of y
+      number (Ok tt) = 0
+      number (Err y) = number_of y
 
-      go : (c : Check) → sheet_check s ≡ c → (b : Bool) → and_then c (require b TableShort) ≡ Failed x → (number_of x ≤ 10) ⊎ (number_of x ≡ 20)
-      go Passed p true q = absurd (omega (arith, ap number q, refused_number x))
-      go Passed p false q = inr (sym (ap number q))
-      go (Failed y) p b q = inl (omega (arith, ap number q, low_refusal s p))
+      go : (c : Check) → sheet_check s ≡ c → (b : Bool) → and_then c (require b TableShort) ≡ Err x → (number_of x ≤ 10) ⊎ (number_of x ≡ 20)
+      go (Ok tt) p true q = absurd (omega (arith, ap number q, refused_number x))
+      go (Ok tt) p false q = inr (sym (ap number q))
+      go (Err y) p b q = inl (omega (arith, ap number q, low_refusal s p))
 
-  cleared_passed : clear_check s t ≡ Passed → JustCleared s t
+  cleared_passed : clear_check s t ≡ Ok tt → JustCleared s t
   unfolding cleared_of
   cleared_passed e = ap (λ (c : Check). (reported_clear (answer_cleared c)).number) e
 
-  cleared_failed : (x : Refusal) → clear_check s t ≡ Failed x → reported_clear (cleared_of s t) ≡ record { number = number_of x; place = place_of x }
+  cleared_failed : (x : Refusal) → clear_check s t ≡ Err x → reported_clear (cleared_of s t) ≡ record { number = number_of x; place = place_of x }
   unfolding cleared_of
   cleared_failed x e = ap (λ (c : Check). reported_clear (answer_cleared c)) e
 
@@ -69,9 +69,9 @@ turned_down e = ap turned_down_by e
 -- the four ways out of a report
 data Way (s states t out : List ℕ) : Report → List ℕ → List ℕ → Type 0 where
   many : most_queries < length states → Way s states t out TooManyQueries t out
-  clearing : length states ≤ most_queries → (x : Refusal) → clear_check s t ≡ Failed x → Way s states t out (Refused x) t out
-  short : length states ≤ most_queries → clear_check s t ≡ Passed → length out < least_output → Way s states t out (Refused OutputShort) t out
-  written : length states ≤ most_queries → clear_check s t ≡ Passed → least_output ≤ length out
+  clearing : length states ≤ most_queries → (x : Refusal) → clear_check s t ≡ Err x → Way s states t out (Refused x) t out
+  short : length states ≤ most_queries → clear_check s t ≡ Ok tt → length out < least_output → Way s states t out (Refused OutputShort) t out
+  written : length states ≤ most_queries → clear_check s t ≡ Ok tt → least_output ≤ length out
       → Way s states t out (Wrote (length (report_text s states t))) (table_after_queries s states t) (starting_with (report_text s states t) out)
 
 module _ (s states t out : List ℕ) where
@@ -85,9 +85,9 @@ module _ (s states t out : List ℕ) where
     where
       go : (few : Bool) → few_queries states ≡ few → (c : Check) → clear_check s t ≡ c → (b : Bool) → leb least_output (length out) ≡ b → With (answer_report (length (report_text s states t)) few (and_then c (require b OutputShort)))
       go false f c e b g = many (leb-false (length states) most_queries f)
-      go true f (Failed x) e b g = clearing (leb-true (length states) most_queries f) x e
-      go true f Passed e false g = short (leb-true (length states) most_queries f) e (leb-false least_output (length out) g)
-      go true f Passed e true g = written (leb-true (length states) most_queries f) e (leb-true least_output (length out) g)
+      go true f (Err x) e b g = clearing (leb-true (length states) most_queries f) x e
+      go true f (Ok tt) e false g = short (leb-true (length states) most_queries f) e (leb-false least_output (length out) g)
+      go true f (Ok tt) e true g = written (leb-true (length states) most_queries f) e (leb-true least_output (length out) g)
 
   way_of : {r : Report} {u v : List ℕ} → WritesReport s states t out r u v → Way s states t out r u v
   way_of {r} {u} {v} k =
@@ -96,19 +96,19 @@ module _ (s states t out : List ℕ) where
       (subst (λ (x : List ℕ). Way s states t out (report_of s states t out) (table_reported s states t out) x) (sym k.1.1.1.0) way))
 
   -- what each way says of the numbers
-  twenty_two_only : (x : Refusal) → clear_check s t ≡ Failed x → number_of x ≢ 22
+  twenty_two_only : (x : Refusal) → clear_check s t ≡ Err x → number_of x ≢ 22
   twenty_two_only x e n = elim (clearing_number s t x e) [
     | inl h ↦ omega (arith, h, n)
     | inr h ↦ omega (arith, h, n)
   ]
 
-  thirty_six_only : (x : Refusal) → clear_check s t ≡ Failed x → number_of x ≢ 36
+  thirty_six_only : (x : Refusal) → clear_check s t ≡ Err x → number_of x ≢ 36
   thirty_six_only x e n = elim (clearing_number s t x e) [
     | inl h ↦ omega (arith, h, n)
     | inr h ↦ omega (arith, h, n)
   ]
 
-  not_cleared : (x : Refusal) → clear_check s t ≡ Failed x → JustCleared s t → ⊥
+  not_cleared : (x : Refusal) → clear_check s t ≡ Err x → JustCleared s t → ⊥
   not_cleared x e just = omega (arith, ap (λ (c : ClearReport). c.number) (cleared_failed s t x e), just, refused_number x)
 
   to_36 : {r : Report} {u v : List ℕ} → Way s states t out r u v → (reported_text r).number ≡ 36 → most_queries < length states

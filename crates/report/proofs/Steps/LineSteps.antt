@@ -12,7 +12,7 @@ use Rattle.text.specs.Placing.{buffer_after, starting_with, Puts}
 use Rattle.text.proofs.Placing.{starting_length, starting_append}
 use Rattle.sheet.specs.RunningCalls.{AllBytes}
 use Rattle.sheet.specs.Reading.{sheet_check}
-use Rattle.sheet.specs.declared.Check.TheVariants.{Passed}
+use Rattle.std.specs.Prelude.{Ok}
 use Rattle.sheet.proofs.Acceptance.Sheet.{accepted_iff}
 use Rattle.judge.specs.LargestTable.{most_cells}
 use Rattle.judge.specs.Clearing.{cleared_of, table_cleared}
@@ -45,7 +45,7 @@ module _ (s states t out : List ℕ) (r : LinesRequire s states t out) where
       subst (λ (u : List ℕ). ListCorrect s r.lent (take k states) (reports s u (take k states)) (table_after s u (take k states))) (sym r.cleared)
       (demand3.lists s r.lent (take k states) r.just)
 
-  accepted : sheet_check s ≡ Passed
+  accepted : sheet_check s ≡ Ok tt
   accepted = (accepted_iff s).1 ((call_numbers.clears s r.lent (cleared_of s r.lent) (table_cleared s r.lent) (refl, (refl, refl))).done.0 r.just).0
 
   first_visits : (k : ℕ) → visits_of (reports s t (take k states)) ≤ most_cells

@@ -14,8 +14,8 @@ use Rattle.sheet.specs.Refusals.{require}
 use Rattle.sheet.specs.Reading.{actions_check}
 use Rattle.sheet.specs.WellFormed.{WellFormedEntry, WellFormedActions}
 use Rattle.sheet.specs.declared.Refusal.TheVariants.{ActionsSize, EntryFault}
-use Rattle.sheet.specs.declared.Check.{Check}
-use Rattle.sheet.specs.declared.Check.TheVariants.{Passed}
+use Rattle.std.specs.Prelude.{Ok}
+use Rattle.sheet.specs.Refusals.{Check}
 use Rattle.sheet.proofs.Steps.Sizes.{actions_limits, actions_exact}
 use Rattle.sheet.proofs.Steps.Entries.{right_constant, right_action, right_pair, right_not, right_range, right_unknown}
 use Rattle.sheet.proofs.Nodes.Shapes.{ranged, one_of}
@@ -83,7 +83,7 @@ module _ (actions : ℕ) (a : List ℕ) where
   abbrev entries : Check
   entries = require (eqb (lowest_entry actions a) (entry_count a)) (EntryFault (lowest_entry actions a))
 
-  kept : actions_check actions a ≡ Passed → WellFormedActions actions a
+  kept : actions_check actions a ≡ Ok tt → WellFormedActions actions a
   unfolding actions_check
   kept q =
       let c = passed_then sizes entries q in
@@ -92,7 +92,7 @@ module _ (actions : ℕ) (a : List ℕ) where
       (none_found (entry_faulty actions a) (entry_count a)).0 (passed_require (eqb (lowest_entry actions a) (entry_count a)) (EntryFault (lowest_entry actions a)) c.1) in
       record { headed = s.0; few = s.1; exact = s.2; entries_kept = λ e h. entry_kept e (right_of e (t e h)) }
 
-  passes : WellFormedActions actions a → actions_check actions a ≡ Passed
+  passes : WellFormedActions actions a → actions_check actions a ≡ Ok tt
   unfolding actions_check
   passes k =
       then_passed sizes entries
@@ -100,5 +100,5 @@ module _ (actions : ℕ) (a : List ℕ) where
       (require_passed (eqb (lowest_entry actions a) (entry_count a)) (EntryFault (lowest_entry actions a))
       ((none_found (entry_faulty actions a) (entry_count a)).1 (λ e h. fine e (entry_right_lem e (k.entries_kept e h)))))
 
-  pub actions_iff : (actions_check actions a ≡ Passed) ↔ WellFormedActions actions a
+  pub actions_iff : (actions_check actions a ≡ Ok tt) ↔ WellFormedActions actions a
   actions_iff = (kept, passes)

@@ -15,23 +15,22 @@ use Rattle.sheet.specs.Writing.{sheet_of, sheet_length, write_check, answer_writ
 use Rattle.sheet.specs.AnsweredCalls.{ReadAnswered, WriteAnswered, AnsweredCalls}
 use Rattle.sheet.specs.declared.Refusal.{Refusal}
 use Rattle.sheet.specs.declared.Refusal.TheVariants.{OutputShort}
-use Rattle.sheet.specs.declared.Check.{Check}
-use Rattle.sheet.specs.declared.Check.TheVariants.{Passed, Failed}
-use Rattle.sheet.specs.declared.Written.{Written}
+use Rattle.std.specs.Prelude.{Result, Err, Ok}
+use Rattle.sheet.specs.Refusals.{Check}
 use Rattle.sheet.proofs.Acceptance.Sheet.{bodies_iff, accepted_iff}
 use Rattle.sheet.proofs.Acceptance.Numbers.{refused_number, low_bodies}
 use Rattle.sheet.proofs.Roundtrip.RoundTrip.{written_length}
 
-not_passed : (x : Refusal) → Failed x ≡ Passed → ⊥
+not_passed : (x : Refusal) → ◌≡◌ {A = Check} (Err x) (Ok tt) → ⊥
 not_passed x e = let z : ◌≡◌ {A = ℕ} 0 1 = cc in omega arith
 
-read_answered : (s : List ℕ) (c : Check) → (c ≡ Passed) ↔ WellFormedSheet s → ReadAnswered s (answer_read (bodies_of s) c)
-read_answered s Passed iff = record {
+read_answered : (s : List ℕ) (c : Check) → (c ≡ Ok tt) ↔ WellFormedSheet s → ReadAnswered s (answer_read (bodies_of s) c)
+read_answered s (Ok tt) iff = record {
   exactly = (λ q. iff.0 refl, λ k. refl);
   accepted = λ q. (refl, refl);
   refused = λ q. absurd (q refl);
 }
-read_answered s (Failed x) iff = record {
+read_answered s (Err x) iff = record {
   exactly = (λ q. absurd (omega (arith, refused_number x)), λ k. absurd (not_passed x (iff.1 k)));
   accepted = λ q. absurd (omega (arith, refused_number x));
   refused = λ q. refl;
@@ -66,8 +65,8 @@ module _ (p a r out : List ℕ) where
       }
 
   write_answered : (c : Check) → bodies_check p a r ≡ c → After (and_then c (require (leb (sheet_length p a r) (length out)) OutputShort))
-  write_answered Passed e = roomy (leb (sheet_length p a r) (length out)) refl ((bodies_iff p a r).0 e)
-  write_answered (Failed x) e = record {
+  write_answered (Ok tt) e = roomy (leb (sheet_length p a r) (length out)) refl ((bodies_iff p a r).0 e)
+  write_answered (Err x) e = record {
     exactly = (λ q. absurd (omega (arith, refused_number x)), λ q. absurd (not_passed x (sym e ∙ (bodies_iff p a r).1 q.0)));
     short = (λ q. absurd (omega (arith, low_bodies p a r e)), λ q. absurd (not_passed x (sym e ∙ (bodies_iff p a r).1 q.0)));
     accepted = λ q. absurd (omega (arith, refused_number x));
@@ -79,9 +78,9 @@ module _ (p a r out : List ℕ) where
   unfolding written_of output_after write_check
   written-of = write_answered (bodies_check p a r) refl
 
-  answered_write : (answer : Written) (out' : List ℕ) → answer ≡ written_of p a r (length out) → out' ≡ output_after p a r out → WriteAnswered p a r out answer out'
+  answered_write : (answer : Result ℕ Refusal) (out' : List ℕ) → answer ≡ written_of p a r (length out) → out' ≡ output_after p a r out → WriteAnswered p a r out answer out'
   answered_write answer out' e f =
-      subst (λ (w : Written). WriteAnswered p a r out w out') (sym e)
+      subst (λ (w : Result ℕ Refusal). WriteAnswered p a r out w out') (sym e)
       (subst (WriteAnswered p a r out (written_of p a r (length out))) (sym f) written-of)
 
 pub answered_calls : AnsweredCalls

@@ -9,37 +9,35 @@ use Rattle.sheet.specs.Acceptance.{AcceptedExactly}
 use Rattle.sheet.specs.Reading.{bodies_check, sheet_check, bodies_of, answer_read, read_of}
 use Rattle.sheet.specs.Writing.{sheet_length, write_check, answer_written, written_of}
 use Rattle.sheet.specs.declared.Bodies.{Bodies}
-use Rattle.sheet.specs.declared.Check.{Check}
-use Rattle.sheet.specs.declared.Check.TheVariants.{Passed, Failed}
-use Rattle.sheet.specs.declared.Read.TheVariants.{Accepted}
-use Rattle.sheet.specs.declared.Written.TheVariants.{Wrote}
+use Rattle.std.specs.Prelude.{Err, Ok}
+use Rattle.sheet.specs.Refusals.{Check}
 use Rattle.sheet.proofs.Checks.Checks.{passed_then}
 use Rattle.sheet.proofs.Acceptance.Sheet.{bodies_iff, accepted_iff, read_accepts}
 
 -- a sheet that `read` accepted passed every check, and the offsets and lengths are those of its table of contents
-pub was_accepted : (s : List ℕ) (b : Bodies) → Accepted b ≡ read_of s → (sheet_check s ≡ Passed) × (b ≡ bodies_of s)
+pub was_accepted : (s : List ℕ) (b : Bodies) → Ok b ≡ read_of s → (sheet_check s ≡ Ok tt) × (b ≡ bodies_of s)
 unfolding read_of
 was_accepted s b e = go (sheet_check s) e
   where
-    go : (c : Check) → Accepted b ≡ answer_read (bodies_of s) c → (c ≡ Passed) × (b ≡ bodies_of s)
-    go Passed f = (refl, cc)
-    go (Failed x) f = absurd (let z : ◌≡◌ {A = ℕ} 0 1 = cc in omega arith)
+    go : (c : Check) → Ok b ≡ answer_read (bodies_of s) c → (c ≡ Ok tt) × (b ≡ bodies_of s)
+    go (Ok tt) f = (refl, cc)
+    go (Err x) f = absurd (let z : ◌≡◌ {A = ℕ} 0 1 = cc in omega arith)
 
 module _ (p a r out : List ℕ) where
   -- bodies that `write` wrote passed every check, and the length is that of the sheet
-  pub was_written : (n : ℕ) → Wrote n ≡ written_of p a r (length out) → (write_check p a r (length out) ≡ Passed) × (n ≡ sheet_length p a r)
+  pub was_written : (n : ℕ) → Ok n ≡ written_of p a r (length out) → (write_check p a r (length out) ≡ Ok tt) × (n ≡ sheet_length p a r)
   unfolding written_of
   was_written n e = go (write_check p a r (length out)) e
     where
-      go : (c : Check) → Wrote n ≡ answer_written (sheet_length p a r) c → (c ≡ Passed) × (n ≡ sheet_length p a r)
-      go Passed f = (refl, cc)
-      go (Failed x) f = absurd (let z : ◌≡◌ {A = ℕ} 0 1 = cc in omega arith)
+      go : (c : Check) → Ok n ≡ answer_written (sheet_length p a r) c → (c ≡ Ok tt) × (n ≡ sheet_length p a r)
+      go (Ok tt) f = (refl, cc)
+      go (Err x) f = absurd (let z : ◌≡◌ {A = ℕ} 0 1 = cc in omega arith)
 
-  pub written_bodies : write_check p a r (length out) ≡ Passed → bodies_check p a r ≡ Passed
+  pub written_bodies : write_check p a r (length out) ≡ Ok tt → bodies_check p a r ≡ Ok tt
   unfolding write_check
   written_bodies e = (passed_then (bodies_check p a r) _ e).0
 
-  pub writes : bodies_check p a r ≡ Passed → sheet_length p a r ≤ length out → written_of p a r (length out) ≡ Wrote (sheet_length p a r)
+  pub writes : bodies_check p a r ≡ Ok tt → sheet_length p a r ≤ length out → written_of p a r (length out) ≡ Ok (sheet_length p a r)
   unfolding written_of write_check
   writes e h = rw (e, le-leb (sheet_length p a r) (length out) h)
 

@@ -18,7 +18,7 @@ use Rattle.sheet.specs.RefusalOrder.{BodiesFault, SheetFault, WriteFault}
 use Rattle.sheet.specs.declared.Refusal.{Refusal}
 use Rattle.sheet.specs.declared.Refusal.TheVariants.{TooShort, Heading, Contents, PlanSize, TransitionFault, ActionsSize, EntryFault, RuleSize}
 use Rattle.sheet.specs.declared.Refusal.TheVariants.{SyntaxFault, BindingFault, NoSuchState, Loop, TooManyStates, TableShort, TableByte, OutputShort}
-use Rattle.sheet.specs.declared.Check.TheVariants.{Failed}
+use Rattle.std.specs.Prelude.{Err}
 use Rattle.sheet.proofs.Acceptance.Order.{Tells, bodies_range, bodies_tells, to_bodies, sheet_range, sheet_tells, to_inner, write_tells}
 
 pub refused_number : (x : Refusal) → 0 < number_of x
@@ -41,17 +41,17 @@ refused_number OutputShort = omega arith
 
 -- ---- the fault of a refusal
 
-module _ (s : List ℕ) {x : Refusal} (e : sheet_check s ≡ Failed x) where
+module _ (s : List ℕ) {x : Refusal} (e : sheet_check s ≡ Err x) where
   sheet_fault : SheetFault s (number_of x) (place_of x)
   sheet_fault = (subst (Tells (SheetFault s) 1 11) e (sheet_tells s)).2
 
   pub low_refusal : number_of x ≤ 10
   low_refusal = omega (arith, sheet_range s (number_of x) (place_of x) sheet_fault)
 
-pub low_bodies : (p a r : List ℕ) {x : Refusal} → bodies_check p a r ≡ Failed x → number_of x ≤ 10
+pub low_bodies : (p a r : List ℕ) {x : Refusal} → bodies_check p a r ≡ Err x → number_of x ≤ 10
 low_bodies p a r {x} e = let t = subst (Tells (BodiesFault p a r) 4 11) e (bodies_tells p a r) in omega (arith, t.1)
 
-write_fault : (p a r : List ℕ) (room : ℕ) {x : Refusal} → write_check p a r room ≡ Failed x → WriteFault p a r room (number_of x) (place_of x)
+write_fault : (p a r : List ℕ) (room : ℕ) {x : Refusal} → write_check p a r room ≡ Err x → WriteFault p a r room (number_of x) (place_of x)
 write_fault p a r room e = (subst (Tells (WriteFault p a r room) 4 23) e (write_tells p a r room)).2
 
 -- ---- numbers

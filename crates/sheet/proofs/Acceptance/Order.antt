@@ -24,10 +24,8 @@ use Rattle.sheet.specs.declared.Bodies.{Bodies}
 use Rattle.sheet.specs.declared.Refusal.{Refusal}
 use Rattle.sheet.specs.declared.Refusal.TheVariants.{TooShort, Heading, Contents, PlanSize, TransitionFault}
 use Rattle.sheet.specs.declared.Refusal.TheVariants.{ActionsSize, EntryFault, RuleSize, SyntaxFault, BindingFault, OutputShort}
-use Rattle.sheet.specs.declared.Check.{Check}
-use Rattle.sheet.specs.declared.Check.TheVariants.{Passed, Failed}
-use Rattle.sheet.specs.declared.Read.{Read}
-use Rattle.sheet.specs.declared.Written.{Written}
+use Rattle.std.specs.Prelude.{Result, Err, Ok}
+use Rattle.sheet.specs.Refusals.{Check}
 use Rattle.sheet.proofs.Steps.Sizes.{rule_limits}
 use Rattle.sheet.proofs.Nodes.Faults.{faults_in_preorder, no_fault, a_fault}
 use Rattle.sheet.proofs.Checks.Bools.{differ}
@@ -43,23 +41,23 @@ module _ (Fault : ℕ → ℕ → Type 0) where
 
   -- of the numbers from lo up to hi the check gives the lowest that has a fault, and its place
   abbrev pub Tells : ℕ → ℕ → Check → Type 0
-  Tells lo hi Passed = None lo hi
-  Tells lo hi (Failed x) = (lo ≤ number_of x) × (number_of x < hi) × Fault (number_of x) (place_of x) × None lo (number_of x)
+  Tells lo hi (Ok tt) = None lo hi
+  Tells lo hi (Err x) = (lo ≤ number_of x) × (number_of x < hi) × Fault (number_of x) (place_of x) × None lo (number_of x)
 
   none_join : {lo mid hi : ℕ} → None lo mid → None mid hi → None lo hi
   none_join {lo} {mid} {hi} t u j i a b f = elim (dec_lt j mid) [ yes q ↦ t j i a q f | no q ↦ u j i (omega arith) b f ]
 
   tells_from : (lo mid hi : ℕ) → lo ≤ mid → None lo mid → (d : Check) → Tells mid hi d → Tells lo hi d
-  tells_from lo mid hi l t Passed u = none_join t u
-  tells_from lo mid hi l t (Failed x) u = (omega (arith, u.0), u.1, u.2, none_join t u.3)
+  tells_from lo mid hi l t (Ok tt) u = none_join t u
+  tells_from lo mid hi l t (Err x) u = (omega (arith, u.0), u.1, u.2, none_join t u.3)
 
   tells_to : (lo mid hi : ℕ) → mid ≤ hi → None mid hi → (c : Check) → Tells lo mid c → Tells lo hi c
-  tells_to lo mid hi h u Passed t = none_join t u
-  tells_to lo mid hi h u (Failed x) t = (t.0, omega (arith, t.1), t.2, t.3)
+  tells_to lo mid hi h u (Ok tt) t = none_join t u
+  tells_to lo mid hi h u (Err x) t = (t.0, omega (arith, t.1), t.2, t.3)
 
   tells_then : (lo mid hi : ℕ) (c d : Check) → lo ≤ mid → mid ≤ hi → Tells lo mid c → Tells mid hi d → Tells lo hi (and_then c d)
-  tells_then lo mid hi Passed d l h t u = tells_from lo mid hi l t d u
-  tells_then lo mid hi (Failed x) d l h t u = (t.0, omega (arith, t.1), t.2, t.3)
+  tells_then lo mid hi (Ok tt) d l h t u = tells_from lo mid hi l t d u
+  tells_then lo mid hi (Err x) d l h t u = (t.0, omega (arith, t.1), t.2, t.3)
 
   -- a test of the number of x
   module _ (kept : Bool) (x : Refusal) (none : kept ≡ true → (i : ℕ) → Fault (number_of x) i → ⊥) (some : kept ≡ false → Fault (number_of x) (place_of x)) where
@@ -81,11 +79,11 @@ module _ (Fault : ℕ → ℕ → Type 0) where
   -- the number and the place that such a check gives
   decided : (lo hi : ℕ) → 1 ≤ lo → ((k m : ℕ) → Fault k m → (lo ≤ k) × (k < hi)) → ((k m m' : ℕ) → Fault k m → Fault k m' → m ≡ m')
       → (c : Check) → Tells lo hi c → (k m : ℕ) → 1 ≤ k → (((reported_check c).number ≡ k) × ((reported_check c).place ≡ m)) ↔ First Fault k m
-  decided lo hi low range one Passed t k m l = (
+  decided lo hi low range one (Ok tt) t k m l = (
     λ q. absurd (omega (arith, q.0)),
     λ f. let g = range k m f.found in absurd (t k m g.0 g.1 f.found),
   )
-  decided lo hi low range one (Failed x) t k m l = (
+  decided lo hi low range one (Err x) t k m l = (
     λ q. record { found = subst (Fault k) q.1 (subst (λ (j : ℕ). Fault j (place_of x)) q.0 t.2); none_before = λ j i h f. t.3 j i (range j i f).0 (omega (arith, q.0)) f },
     λ f.
         let e : number_of x ≡ k = same f in
@@ -105,8 +103,8 @@ module _ (Fault : ℕ → ℕ → Type 0) where
 -- faults that are the same in a range are told alike
 tells_alike : (F G : ℕ → ℕ → Type 0) (lo hi : ℕ) → ((k m : ℕ) → lo ≤ k → k < hi → F k m → G k m) → ((k m : ℕ) → lo ≤ k → k < hi → G k m → F k m)
     → (c : Check) → Tells F lo hi c → Tells G lo hi c
-tells_alike F G lo hi to from Passed t = λ j i a b f. t j i a b (from j i a b f)
-tells_alike F G lo hi to from (Failed x) t =
+tells_alike F G lo hi to from (Ok tt) t = λ j i a b f. t j i a b (from j i a b f)
+tells_alike F G lo hi to from (Err x) t =
     (t.0, t.1, to (number_of x) (place_of x) t.0 t.1 t.2, λ j i a b f. t.3 j i a b (from j i a (omega (arith, t.1)) f))
 
 -- ---- the lowest number at which a test holds
@@ -299,25 +297,25 @@ module _ (p a r : List ℕ) (room : ℕ) where
 -- ---- the calls
 
 -- number and place of what `read` and `write` report
-abbrev read_part : Read → CheckReport
+abbrev read_part : (Result Bodies Refusal) → CheckReport
 read_part x = record { number = (reported_read x).number; place = (reported_read x).place }
 
-abbrev written_part : Written → CheckReport
+abbrev written_part : (Result ℕ Refusal) → CheckReport
 written_part x = record { number = (reported_write x).number; place = (reported_write x).place }
 
 read_part_lem : (b : Bodies) (c : Check) → read_part (answer_read b c) ≡ reported_check c
-read_part_lem b Passed = refl
-read_part_lem b (Failed x) = refl
+read_part_lem b (Ok tt) = refl
+read_part_lem b (Err x) = refl
 
 written_part_lem : (size : ℕ) (c : Check) → written_part (answer_written size c) ≡ reported_check c
-written_part_lem size Passed = refl
-written_part_lem size (Failed x) = refl
+written_part_lem size (Ok tt) = refl
+written_part_lem size (Err x) = refl
 
-read_gives : (s : List ℕ) (answer : Read) → answer ≡ read_of s → read_part answer ≡ reported_check (sheet_check s)
+read_gives : (s : List ℕ) (answer : Result Bodies Refusal) → answer ≡ read_of s → read_part answer ≡ reported_check (sheet_check s)
 unfolding read_of
 read_gives s answer e = ap read_part e ∙ read_part_lem (bodies_of s) (sheet_check s)
 
-write_gives : (p a r : List ℕ) (room : ℕ) (answer : Written) → answer ≡ written_of p a r room → written_part answer ≡ reported_check (write_check p a r room)
+write_gives : (p a r : List ℕ) (room : ℕ) (answer : Result ℕ Refusal) → answer ≡ written_of p a r room → written_part answer ≡ reported_check (write_check p a r room)
 unfolding written_of
 write_gives p a r room answer e = ap written_part e ∙ written_part_lem (sheet_length p a r) (write_check p a r room)
 
@@ -332,8 +330,8 @@ refusals_in_order = record {
 }
 
 -- a call that reports what the check of a sheet failed with, and else 0 or a number above 10
-pub given_in_order : (s : List ℕ) (number place : ℕ) → ((x : Refusal) → sheet_check s ≡ Failed x → (number ≡ number_of x) × (place ≡ place_of x))
-    → (sheet_check s ≡ Passed → (number ≡ 0) ⊎ (10 < number)) → GivenInOrder s number place
+pub given_in_order : (s : List ℕ) (number place : ℕ) → ((x : Refusal) → sheet_check s ≡ Err x → (number ≡ number_of x) × (place ≡ place_of x))
+    → (sheet_check s ≡ Ok tt → (number ≡ 0) ⊎ (10 < number)) → GivenInOrder s number place
 given_in_order s number place refuses accepts k m l h = go (sheet_check s) refl
   where
     found : (c : Check) → sheet_check s ≡ c → ((reported_check (sheet_check s)).number ≡ (reported_check c).number) × ((reported_check (sheet_check s)).place ≡ (reported_check c).place)
@@ -344,11 +342,11 @@ given_in_order s number place refuses accepts k m l h = go (sheet_check s) refl
     other (inr a) b = omega arith
 
     go : (c : Check) → sheet_check s ≡ c → ((number ≡ k) × (place ≡ m)) ↔ First (SheetFault s) k m
-    go Passed e = (
+    go (Ok tt) e = (
       λ q. absurd (other (accepts e) q.0),
-      λ f. let z : (reported_check (sheet_check s)).number ≡ k = ((sheet_order s k m l).1 f).0 in absurd (omega (arith, (found Passed e).0, z)),
+      λ f. let z : (reported_check (sheet_check s)).number ≡ k = ((sheet_order s k m l).1 f).0 in absurd (omega (arith, (found (Ok tt) e).0, z)),
     )
-    go (Failed x) e = (
-      λ q. (sheet_order s k m l).0 ((found (Failed x) e).0 ∙ sym (refuses x e).0 ∙ q.0, (found (Failed x) e).1 ∙ sym (refuses x e).1 ∙ q.1),
-      λ f. let z = (sheet_order s k m l).1 f in ((refuses x e).0 ∙ sym (found (Failed x) e).0 ∙ z.0, (refuses x e).1 ∙ sym (found (Failed x) e).1 ∙ z.1),
+    go (Err x) e = (
+      λ q. (sheet_order s k m l).0 ((found (Err x) e).0 ∙ sym (refuses x e).0 ∙ q.0, (found (Err x) e).1 ∙ sym (refuses x e).1 ∙ q.1),
+      λ f. let z = (sheet_order s k m l).1 f in ((refuses x e).0 ∙ sym (found (Err x) e).0 ∙ z.0, (refuses x e).1 ∙ sym (found (Err x) e).1 ∙ z.1),
     )

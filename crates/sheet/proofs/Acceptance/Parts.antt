@@ -13,7 +13,7 @@ use Rattle.sheet.specs.Actions.{entry_count}
 use Rattle.sheet.specs.Rule.{node_count}
 use Rattle.sheet.specs.Reading.{sheet_check}
 use Rattle.sheet.specs.WellFormed.{WellFormedPlan, WellFormedActions, WellFormedRule, WellFormedBodies, WellFormedSheet}
-use Rattle.sheet.specs.declared.Check.TheVariants.{Passed}
+use Rattle.std.specs.Prelude.{Ok}
 use Rattle.sheet.proofs.Acceptance.Sheet.{accepted_iff, plan_length_lem, actions_length_lem, rule_length_lem, kept_lengths}
 
 slice_byte : (s : List ℕ) (offset size j : ℕ) → j < size → byte (slice s offset size) j ≡ byte s (offset + j)
@@ -27,7 +27,7 @@ slice_small s small offset size k =
       | no h ↦ omega (arith, get_or-eq_default (take size (drop offset s)) 0 {n = k} (omega (arith, length-take size (drop offset s))))
     ]
 
-module _ (s : List ℕ) (accepted : sheet_check s ≡ Passed) where
+module _ (s : List ℕ) (accepted : sheet_check s ≡ Ok tt) where
   pub sheet_kept : WellFormedSheet s
   sheet_kept = (accepted_iff s).0 accepted
 

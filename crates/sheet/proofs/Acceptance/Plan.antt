@@ -13,8 +13,8 @@ use Rattle.sheet.specs.Refusals.{require}
 use Rattle.sheet.specs.Reading.{plan_check}
 use Rattle.sheet.specs.WellFormed.{Before, WellFormedPlan}
 use Rattle.sheet.specs.declared.Refusal.TheVariants.{PlanSize, TransitionFault}
-use Rattle.sheet.specs.declared.Check.{Check}
-use Rattle.sheet.specs.declared.Check.TheVariants.{Passed}
+use Rattle.std.specs.Prelude.{Ok}
+use Rattle.sheet.specs.Refusals.{Check}
 use Rattle.sheet.proofs.Steps.Sizes.{plan_limits, plan_exact}
 use Rattle.sheet.proofs.Checks.Checks.{and_parts, and_parts₃, either, right, passed_then, then_passed, passed_require, require_passed, none_found}
 
@@ -63,7 +63,7 @@ module _ (p : List ℕ) where
   abbrev transitions : Check
   transitions = require (eqb (lowest_transition p) (transition_count p)) (TransitionFault (lowest_transition p))
 
-  kept : plan_check p ≡ Passed → WellFormedPlan p
+  kept : plan_check p ≡ Ok tt → WellFormedPlan p
   unfolding plan_check
   kept q =
       let c = passed_then sizes transitions q in
@@ -87,7 +87,7 @@ module _ (p : List ℕ) where
     rising zero h = refl
     rising (suc i) h = (before_iff (origin p i) (label p i) (target p i) (origin p (suc i)) (label p (suc i)) (target p (suc i))).1 (k.rising i h)
 
-    passes : plan_check p ≡ Passed
+    passes : plan_check p ≡ Ok tt
     unfolding plan_check
     passes =
         then_passed sizes transitions
@@ -95,5 +95,5 @@ module _ (p : List ℕ) where
         (require_passed (eqb (lowest_transition p) (transition_count p)) (TransitionFault (lowest_transition p))
         ((none_found (transition_faulty p) (transition_count p)).1 (λ i h. fine i (k.origin_below i h) (k.label_below i h) (k.target_below i h) (rising i h))))
 
-  pub plan_iff : (plan_check p ≡ Passed) ↔ WellFormedPlan p
+  pub plan_iff : (plan_check p ≡ Ok tt) ↔ WellFormedPlan p
   plan_iff = (kept, passes)

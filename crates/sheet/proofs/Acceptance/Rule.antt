@@ -15,8 +15,8 @@ use Rattle.sheet.specs.Reading.{rule_check}
 use Rattle.sheet.specs.Bindings.{BindingRight, Bindings}
 use Rattle.sheet.specs.WellFormed.{Subtree, Bound, WellFormedRule}
 use Rattle.sheet.specs.declared.Refusal.TheVariants.{RuleSize, SyntaxFault, BindingFault}
-use Rattle.sheet.specs.declared.Check.{Check}
-use Rattle.sheet.specs.declared.Check.TheVariants.{Passed}
+use Rattle.std.specs.Prelude.{Ok}
+use Rattle.sheet.specs.Refusals.{Check}
 use Rattle.sheet.proofs.Steps.Sizes.{rule_limits, rule_exact}
 use Rattle.sheet.proofs.Nodes.Shapes.{shape_leaf, shape_pair, shape_modal, shape_variable, shape_binder, shape_unknown, kinds}
 use Rattle.sheet.proofs.Nodes.Unfolding.{subtrees}
@@ -91,7 +91,7 @@ module _ (entries : ℕ) (r : List ℕ) where
   abbrev binds : Check
   binds = require (eqb (lowest_binding r) (node_count r)) (BindingFault (record { 0 = lowest_binding r }))
 
-  kept : rule_check entries r ≡ Passed → WellFormedRule entries r
+  kept : rule_check entries r ≡ Ok tt → WellFormedRule entries r
   unfolding rule_check
   kept q =
       let c = passed_then sizes (and_then nodes binds) q in
@@ -112,7 +112,7 @@ module _ (entries : ℕ) (r : List ℕ) where
         bound = λ n h. (fine_right s.2 w n h (t n h)).bound;
       }
 
-  passes : WellFormedRule entries r → rule_check entries r ≡ Passed
+  passes : WellFormedRule entries r → rule_check entries r ≡ Ok tt
   unfolding rule_check
   passes k =
       then_passed sizes (and_then nodes binds)
@@ -122,7 +122,7 @@ module _ (entries : ℕ) (r : List ℕ) where
       (eq-eqb (syntax_fault entries r) (node_count r) ((subtrees.faultless entries r k.some_nodes).1 k.whole)))
       (require_passed (eqb (lowest_binding r) (node_count r)) (BindingFault (record { 0 = lowest_binding r })) ((none_found (binding_faulty r) (node_count r)).1 (fine k))))
 
-  pub rule_iff : (rule_check entries r ≡ Passed) ↔ WellFormedRule entries r
+  pub rule_iff : (rule_check entries r ≡ Ok tt) ↔ WellFormedRule entries r
   rule_iff = (kept, passes)
 
 pub bindings : Bindings

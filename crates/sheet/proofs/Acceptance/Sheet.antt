@@ -19,9 +19,8 @@ use Rattle.sheet.specs.Acceptance.{AcceptedIff, BodiesAcceptedIff}
 use Rattle.sheet.specs.declared.Bodies.{Bodies}
 use Rattle.sheet.specs.declared.Refusal.{Refusal}
 use Rattle.sheet.specs.declared.Refusal.TheVariants.{TooShort, Heading, Contents}
-use Rattle.sheet.specs.declared.Check.{Check}
-use Rattle.sheet.specs.declared.Check.TheVariants.{Passed, Failed}
-use Rattle.sheet.specs.declared.Read.TheVariants.{Accepted}
+use Rattle.std.specs.Prelude.{Err, Ok}
+use Rattle.sheet.specs.Refusals.{Check}
 use Rattle.sheet.proofs.Acceptance.Plan.{plan_iff}
 use Rattle.sheet.proofs.Acceptance.Actions.{actions_iff}
 use Rattle.sheet.proofs.Acceptance.Rule.{rule_iff}
@@ -113,7 +112,7 @@ module _ (s : List ℕ) where
   abbrev bodies : Check
   bodies = bodies_check (plan_body s) (actions_body s) (rule_body s)
 
-  kept : sheet_check s ≡ Passed → WellFormedSheet s
+  kept : sheet_check s ≡ Ok tt → WellFormedSheet s
   unfolding sheet_check heading_right contents_right
   kept q =
       let c = passed_then long_enough (and_then heading (and_then contents bodies)) q in
@@ -151,7 +150,7 @@ module _ (s : List ℕ) where
       (all (entry_is s 12 3 (rule_offset s)) sizes (is_entry 12 3 (rule_offset s) k.rule_kind k.rule_follows)
       (all (eqb (length s) (rule_offset s + rule_length s)) (leb (length s) longest) (eq-eqb (length s) (rule_offset s + rule_length s) k.ends) (le-leb (length s) longest (kept_lengths k).1))))
 
-  passes : WellFormedSheet s → sheet_check s ≡ Passed
+  passes : WellFormedSheet s → sheet_check s ≡ Ok tt
   unfolding sheet_check
   passes k =
       then_passed long_enough (and_then heading (and_then contents bodies))
@@ -163,14 +162,14 @@ pub accepted_iff : AcceptedIff
 accepted_iff s = (kept s, passes s)
 
 -- a sheet that keeps the rules is not refused
-pub not_refused : (s : List ℕ) {x : Refusal} → sheet_check s ≡ Failed x → WellFormedSheet s → ⊥
-not_refused s {x} e k = let q : Passed ≡ Failed x = sym ((accepted_iff s).1 k) ∙ e in let z : ◌≡◌ {A = ℕ} 0 1 = cc in omega arith
+pub not_refused : (s : List ℕ) {x : Refusal} → sheet_check s ≡ Err x → WellFormedSheet s → ⊥
+not_refused s {x} e k = let q : (Ok tt) ≡ Err x = sym ((accepted_iff s).1 k) ∙ e in let z : ◌≡◌ {A = ℕ} 0 1 = cc in omega arith
 
-answered : (b : Bodies) (c : Check) → (answer_read b c ≡ Accepted b) ↔ (c ≡ Passed)
-answered b Passed = (λ q. refl, λ q. refl)
-answered b (Failed r) = (λ q. cc, λ q. cc)
+answered : (b : Bodies) (c : Check) → (answer_read b c ≡ Ok b) ↔ (c ≡ Ok tt)
+answered b (Ok tt) = (λ q. refl, λ q. refl)
+answered b (Err r) = (λ q. cc, λ q. cc)
 
-pub read_accepts : (s : List ℕ) → (read_of s ≡ Accepted (bodies_of s)) ↔ WellFormedSheet s
+pub read_accepts : (s : List ℕ) → (read_of s ≡ Ok (bodies_of s)) ↔ WellFormedSheet s
 unfolding read_of
 read_accepts s =
     let a = answered (bodies_of s) (sheet_check s) in

@@ -9,8 +9,8 @@ use borrow.Author.Tests.{eqb-true, eqb-false, eq-eqb}
 use Rattle.sheet.specs.Bytes.{lowest}
 use Rattle.sheet.specs.Refusals.{require, and_then}
 use Rattle.sheet.specs.declared.Refusal.{Refusal}
-use Rattle.sheet.specs.declared.Check.{Check}
-use Rattle.sheet.specs.declared.Check.TheVariants.{Passed, Failed}
+use Rattle.std.specs.Prelude.{Err, Ok}
+use Rattle.sheet.specs.Refusals.{Check}
 use Rattle.sheet.proofs.Checks.Lowest.{lowest_bound, lowest_below, lowest_found, lowest_none}
 
 pub and_parts : (a b : Bool) → (a && b) ≡ true → (a ≡ true) × (b ≡ true)
@@ -46,18 +46,18 @@ pub right : (a b : Bool) → b ≡ true → (a || b) ≡ true
 right true b q = refl
 right false b q = q
 
-pub passed_then : (c d : Check) → and_then c d ≡ Passed → (c ≡ Passed) × (d ≡ Passed)
-passed_then Passed d e = (refl, e)
-passed_then (Failed r) d e = let z : ◌≡◌ {A = ℕ} 0 1 = cc in absurd (omega arith)
+pub passed_then : (c d : Check) → and_then c d ≡ Ok tt → (c ≡ Ok tt) × (d ≡ Ok tt)
+passed_then (Ok tt) d e = (refl, e)
+passed_then (Err r) d e = let z : ◌≡◌ {A = ℕ} 0 1 = cc in absurd (omega arith)
 
-pub then_passed : (c d : Check) → c ≡ Passed → d ≡ Passed → and_then c d ≡ Passed
+pub then_passed : (c d : Check) → c ≡ Ok tt → d ≡ Ok tt → and_then c d ≡ Ok tt
 then_passed c d p q = rw p q
 
-pub passed_require : (b : Bool) (r : Refusal) → require b r ≡ Passed → b ≡ true
+pub passed_require : (b : Bool) (r : Refusal) → require b r ≡ Ok tt → b ≡ true
 passed_require true r e = refl
 passed_require false r e = let z : ◌≡◌ {A = ℕ} 0 1 = cc in absurd (omega arith)
 
-pub require_passed : (b : Bool) (r : Refusal) → b ≡ true → require b r ≡ Passed
+pub require_passed : (b : Bool) (r : Refusal) → b ≡ true → require b r ≡ Ok tt
 require_passed b r e = rw e
 
 -- no number below n is found exactly where the test holds at none

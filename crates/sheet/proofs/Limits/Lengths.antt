@@ -13,11 +13,11 @@ use Rattle.sheet.specs.Reading.{plan_check, actions_check, rule_check, bodies_ch
 use Rattle.sheet.specs.Writing.{sheet_of}
 use Rattle.sheet.specs.RunningCalls.{AllBytes}
 use Rattle.sheet.specs.Lengths.{AcceptedOf}
-use Rattle.sheet.specs.declared.Check.TheVariants.{Passed}
+use Rattle.std.specs.Prelude.{Ok}
 use Rattle.sheet.proofs.Acceptance.Sheet.{accepted_iff, kept_lengths}
 use Rattle.sheet.proofs.Limits.ByteLists.{bytes_nil, bytes_cons, written_bytes}
 
-pub accepted_lengths : (s : List ℕ) → sheet_check s ≡ Passed → (26 ≤ length s) × (length s ≤ 6455)
+pub accepted_lengths : (s : List ℕ) → sheet_check s ≡ Ok tt → (26 ≤ length s) × (length s ≤ 6455)
 accepted_lengths s q = kept_lengths s ((accepted_iff s).0 q)
 
 -- one state, no action and no transition; no action entry; the rule F

@@ -14,8 +14,8 @@ use Rattle.sheet.specs.Refusals.{require, and_then}
 use Rattle.sheet.specs.Reading.{sheet_check}
 use Rattle.sheet.specs.declared.Refusal.{Refusal}
 use Rattle.sheet.specs.declared.Refusal.TheVariants.{Heading, Contents}
-use Rattle.sheet.specs.declared.Check.{Check}
-use Rattle.sheet.specs.declared.Check.TheVariants.{Passed, Failed}
+use Rattle.std.specs.Prelude.{Err, Ok}
+use Rattle.sheet.specs.Refusals.{Check}
 use Rattle.sheet.proofs.Limits.Lengths.{accepted_lengths}
 
 -- the refusal of a file over the longest sheet, by whether its heading is right
@@ -28,11 +28,11 @@ module _ (s : List ℕ) (long : longest < length s) where
   unfolding contents_right
   contents_wrong = simp (lt-leb (length s) longest long, and-false)
 
-  fails : sheet_check s ≡ Failed (too_long (heading_right s))
+  fails : sheet_check s ≡ Err (too_long (heading_right s))
   unfolding sheet_check
   fails = rw (le-leb head_length (length s) (omega arith), contents_wrong) (go (heading_right s))
     where
-      go : (b : Bool) → and_then (require b Heading) (Failed Contents) ≡ Failed (too_long b)
+      go : (b : Bool) → and_then (require b Heading) (Err Contents) ≡ Err (too_long b)
       go true = refl
       go false = refl
 
@@ -46,16 +46,16 @@ module _ (n : ℕ) (s : List ℕ) (cut : longest < n) where
   cut_checked = elim (dec_lt longest (length s)) [
     | yes h ↦
         fails (take n s) (omega (arith, length-take n s))
-        ∙ ap (λ (b : Bool). Failed (too_long b)) (same_heading n s (omega arith))
+        ∙ ap (λ (b : Bool). Err (too_long b)) (same_heading n s (omega arith))
         ∙ sym (fails s h)
     | no h ↦ ap sheet_check (take_all n s (omega arith))
   ]
 
   -- so is any answer that goes by the refusal alone where a file is refused
   pub cut_answered : {A : Type 0} (answer : List ℕ → A) (refused : Refusal → A)
-      → ((l : List ℕ) (x : Refusal) → sheet_check l ≡ Failed x → answer l ≡ refused x) → answer (take n s) ≡ answer s
+      → ((l : List ℕ) (x : Refusal) → sheet_check l ≡ Err x → answer l ≡ refused x) → answer (take n s) ≡ answer s
   cut_answered {A} answer refused refuses = go (sheet_check s) refl
     where
       go : (c : Check) → sheet_check s ≡ c → answer (take n s) ≡ answer s
-      go Passed e = ap answer (take_all n s (omega (arith, accepted_lengths s e)))
-      go (Failed x) e = refuses (take n s) x (cut_checked ∙ e) ∙ sym (refuses s x e)
+      go (Ok tt) e = ap answer (take_all n s (omega (arith, accepted_lengths s e)))
+      go (Err x) e = refuses (take n s) x (cut_checked ∙ e) ∙ sym (refuses s x e)

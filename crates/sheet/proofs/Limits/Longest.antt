@@ -18,7 +18,7 @@ use Rattle.sheet.specs.Writing.{sheet_of}
 use Rattle.sheet.specs.WellFormed.{Before, WellFormedPlan, WellFormedEntry, WellFormedActions, Subtree, WellFormedRule}
 use Rattle.sheet.specs.RunningCalls.{AllBytes}
 use Rattle.sheet.specs.Lengths.{AcceptedOf, Lengths}
-use Rattle.sheet.specs.declared.Check.TheVariants.{Passed}
+use Rattle.std.specs.Prelude.{Ok}
 use Rattle.sheet.proofs.Acceptance.Sheet.{bodies_iff}
 use Rattle.sheet.proofs.Nodes.Binders.{binder_kind, binders_few}
 use Rattle.sheet.proofs.Roundtrip.RoundTrip.{written_accepted, written_length}
@@ -178,7 +178,7 @@ rule_kept =
 
 -- ---- the sheet
 
-checked : bodies_check longest_plan longest_actions longest_rule ≡ Passed
+checked : bodies_check longest_plan longest_actions longest_rule ≡ Ok tt
 unfolding longest_plan longest_actions
 checked = (bodies_iff longest_plan longest_actions longest_rule).1 (record { plan_kept = plan_kept; actions_kept = actions_kept 16; rule_kept = rule_kept })
 

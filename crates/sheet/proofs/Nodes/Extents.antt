@@ -11,8 +11,8 @@ use Rattle.sheet.specs.Bytes.{pick}
 use Rattle.sheet.specs.Rule.{node_count, node_kind, node_x, node_y, Shape, shape_of, leaf, pair, modal, variable, binder, unknown, child_is, fault_at, second, course, extent}
 use Rattle.sheet.specs.WellFormed.{Subtree}
 use Rattle.sheet.specs.Internal.Subtrees.{Bounded}
-use Rattle.sheet.specs.declared.Extent.{Extent}
-use Rattle.sheet.specs.declared.Extent.TheVariants.{Ends, Faulty}
+use Rattle.std.specs.Prelude.{Err, Ok}
+use Rattle.sheet.specs.Rule.{Extent}
 use Rattle.sheet.proofs.Checks.Checks.{and_parts, all}
 use Rattle.sheet.proofs.Nodes.Shapes.{shape_leaf, shape_pair, shape_modal, shape_variable, shape_binder, shape_unknown, ranged, one_of, kinds}
 use Rattle.sheet.proofs.Nodes.Subtrees.{subtree_after}
@@ -25,17 +25,17 @@ child r c place q =
 pub is_child : (r : List ℕ) (c place : ℕ) → c ≡ place → place < node_count r → child_is r c place ≡ true
 is_child r c place q h = all (eqb c place) (ltb place (node_count r)) (eq-eqb c place q) (lt-ltb place (node_count r) h)
 
-ends_inj : {a b : ℕ} → Ends a ≡ Ends b → a ≡ b
+ends_inj : {a b : ℕ} → ◌≡◌ {A = Extent} (Ok a) (Ok b) → a ≡ b
 ends_inj {a} {b} q = cc
 
-picked : (b : Bool) (x : Extent) (n e : ℕ) → pick b x (fault_at n) ≡ Ends e → (b ≡ true) × (x ≡ Ends e)
+picked : (b : Bool) (x : Extent) (n e : ℕ) → pick b x (fault_at n) ≡ Ok e → (b ≡ true) × (x ≡ Ok e)
 picked true x n e q = (refl, q)
 picked false x n e q = let z : ◌≡◌ {A = ℕ} 0 1 = cc in absurd (omega arith)
 
-seconded : (go : ℕ → Extent) (r : List ℕ) (n e : ℕ) (x : Extent) → second go r n x ≡ Ends e
-    → (m : ℕ) × (x ≡ Ends m) × (node_y r n ≡ m) × (m < node_count r) × (go m ≡ Ends e)
-seconded go r n e (Faulty m) q = let z : ◌≡◌ {A = ℕ} 0 1 = cc in absurd (omega arith)
-seconded go r n e (Ends m) q =
+seconded : (go : ℕ → Extent) (r : List ℕ) (n e : ℕ) (x : Extent) → second go r n x ≡ Ok e
+    → (m : ℕ) × (x ≡ Ok m) × (node_y r n ≡ m) × (m < node_count r) × (go m ≡ Ok e)
+seconded go r n e (Err m) q = let z : ◌≡◌ {A = ℕ} 0 1 = cc in absurd (omega arith)
+seconded go r n e (Ok m) q =
     let p = picked (child_is r (node_y r n) m) (go m) n e q in
     let c = child r (node_y r n) m p.0 in
     (m, refl, c.0, c.1, p.1)
@@ -48,23 +48,23 @@ module _ (entries : ℕ) (r : List ℕ) where
   unfolding extent
   extent_suc depth n s q = rw q
 
-  ended : (depth n e : ℕ) (s : Shape) → extent (suc depth) entries r n ≡ Ends e → shape_of (node_kind r n) ≡ s → course (extent depth entries r) entries r n s ≡ Ends e
+  ended : (depth n e : ℕ) (s : Shape) → extent (suc depth) entries r n ≡ Ok e → shape_of (node_kind r n) ≡ s → course (extent depth entries r) entries r n s ≡ Ok e
   ended depth n e s q p = sym (extent_suc depth n s p) ∙ q
 
   next : (n : ℕ) {e : ℕ} → Subtree entries r (n + 1) e → Subtree entries r (suc n) e
   next n {e} p = subst (λ (i : ℕ). Subtree entries r i e) (add-one n) p
 
   -- an end that is found is the end of the node's subtree, and within the rule
-  pub extent_subtree : (depth n e : ℕ) → extent depth entries r n ≡ Ends e → Subtree entries r n e × (n < node_count r → e ≤ node_count r)
+  pub extent_subtree : (depth n e : ℕ) → extent depth entries r n ≡ Ok e → Subtree entries r n e × (n < node_count r → e ≤ node_count r)
   unfolding extent
   extent_subtree zero n e q = let z : ◌≡◌ {A = ℕ} 0 1 = cc in absurd (omega arith)
   extent_subtree (suc depth) n e q =
       let Found : Type 0 = Subtree entries r n e × (n < node_count r → e ≤ node_count r) in
-      let last : Subtree entries r n (suc n) → Ends (n + 1) ≡ Ends e → Found =
+      let last : Subtree entries r n (suc n) → Ok (n + 1) ≡ Ok e → Found =
       λ p g. (subst (Subtree entries r n) (sym (add-one n) ∙ ends_inj g) p, λ h. omega (arith, ends_inj g)) in
       kinds (node_kind r n)
       (λ h.
-      let p = picked (eqb (node_x r n) 0 && eqb (node_y r n) 0) (Ends (n + 1)) n e (ended depth n e leaf q (shape_leaf (node_kind r n) h)) in
+      let p = picked (eqb (node_x r n) 0 && eqb (node_y r n) 0) (Ok (n + 1)) n e (ended depth n e leaf q (shape_leaf (node_kind r n) h)) in
       let b = and_parts (eqb (node_x r n) 0) (eqb (node_y r n) 0) p.0 in
       last (Subtree.constant (omega arith) (eqb-true (node_x r n) 0 b.0) (eqb-true (node_y r n) 0 b.1)) p.1)
       (λ h l.
@@ -81,7 +81,7 @@ module _ (entries : ℕ) (r : List ℕ) where
       let f = extent_subtree depth (n + 1) e p.1 in
       (Subtree.modal (one_of (node_kind r n) 4 h l) (ltb-true (node_x r n) entries b.0) (c.0 ∙ add-one n) (next n f.0), λ i. f.1 c.1))
       (λ h.
-      let p = picked (eqb (node_y r n) 0) (Ends (n + 1)) n e (ended depth n e variable q (shape_variable (node_kind r n) h)) in
+      let p = picked (eqb (node_y r n) 0) (Ok (n + 1)) n e (ended depth n e variable q (shape_variable (node_kind r n) h)) in
       last (Subtree.variable h (eqb-true (node_y r n) 0 p.0)) p.1)
       (λ h l.
       let p = picked (child_is r (node_y r n) (n + 1)) (extent depth entries r (n + 1)) n e (ended depth n e binder q (shape_binder (node_kind r n) h l)) in
@@ -91,15 +91,15 @@ module _ (entries : ℕ) (r : List ℕ) where
       (λ h. let g = ended depth n e unknown q (shape_unknown (node_kind r n) h) in let z : ◌≡◌ {A = ℕ} 0 1 = cc in absurd (omega arith))
 
   -- and the end of a subtree within the rule is found at every depth that is enough
-  pub subtree_extent : (depth n e : ℕ) → Subtree entries r n e → e ≤ node_count r → e ≤ depth + n → extent depth entries r n ≡ Ends e
+  pub subtree_extent : (depth n e : ℕ) → Subtree entries r n e → e ≤ node_count r → e ≤ depth + n → extent depth entries r n ≡ Ok e
   subtree_extent zero n e p h d = absurd (omega (arith, subtree_after p))
   subtree_extent (suc depth) n e (Subtree.constant k x y) h d =
       extent_suc depth n leaf (shape_leaf (node_kind r n) (omega arith)) ∙
-      taken (eqb (node_x r n) 0 && eqb (node_y r n) 0) (Ends (n + 1)) (fault_at n) (all (eqb (node_x r n) 0) (eqb (node_y r n) 0) (eq-eqb (node_x r n) 0 x) (eq-eqb (node_y r n) 0 y)) ∙
-      ap Ends (add-one n)
+      taken (eqb (node_x r n) 0 && eqb (node_y r n) 0) (Ok (n + 1)) (fault_at n) (all (eqb (node_x r n) 0) (eqb (node_y r n) 0) (eq-eqb (node_x r n) 0 x) (eq-eqb (node_y r n) 0 y)) ∙
+      ap Ok (add-one n)
   subtree_extent (suc depth) n e (Subtree.variable k y) h d =
       extent_suc depth n variable (shape_variable (node_kind r n) k) ∙
-      taken (eqb (node_y r n) 0) (Ends (n + 1)) (fault_at n) (eq-eqb (node_y r n) 0 y) ∙ ap Ends (add-one n)
+      taken (eqb (node_y r n) 0) (Ok (n + 1)) (fault_at n) (eq-eqb (node_y r n) 0 y) ∙ ap Ok (add-one n)
   subtree_extent (suc depth) n e (Subtree.pair {m = m} k x p y q) h d =
       let g = ranged (node_kind r n) 2 k in
       extent_suc depth n pair (shape_pair (node_kind r n) g.0 g.1) ∙
@@ -123,8 +123,8 @@ module _ (entries : ℕ) (r : List ℕ) where
 -- ---- what is found lies in the rule
 
 pub bounded_from : (n m count : ℕ) (x : Extent) → n ≤ m → Bounded m count x → Bounded n count x
-bounded_from n m count (Ends e) h b = (omega arith, b.1)
-bounded_from n m count (Faulty k) h b = (omega arith, b.1)
+bounded_from n m count (Ok e) h b = (omega arith, b.1)
+bounded_from n m count (Err k) h b = (omega arith, b.1)
 
 or_fault : (n count : ℕ) (b : Bool) (x : Extent) → n < count → (b ≡ true → Bounded n count x) → Bounded n count (pick b x (fault_at n))
 or_fault n count true x h f = f refl
@@ -136,19 +136,19 @@ module _ (entries : ℕ) (r : List ℕ) (go : ℕ → Extent) (n : ℕ) (h : n <
   to_child c q = bounded_from n (n + 1) (node_count r) (go (n + 1)) (omega arith) (goes (n + 1) (omega arith) (child r c (n + 1) q).1)
 
   to_second : (x : Extent) → Bounded n (node_count r) x → Bounded n (node_count r) (second go r n x)
-  to_second (Faulty m) b = b
-  to_second (Ends e) b =
+  to_second (Err m) b = b
+  to_second (Ok e) b =
       or_fault n (node_count r) (child_is r (node_y r n) e) (go e) h
       (λ q. bounded_from n e (node_count r) (go e) (omega arith) (goes e b.0 (child r (node_y r n) e q).1))
 
   course_bounded : (s : Shape) → Bounded n (node_count r) (course go entries r n s)
-  course_bounded leaf = or_fault n (node_count r) (eqb (node_x r n) 0 && eqb (node_y r n) 0) (Ends (n + 1)) h (λ q. (omega arith, omega arith))
+  course_bounded leaf = or_fault n (node_count r) (eqb (node_x r n) 0 && eqb (node_y r n) 0) (Ok (n + 1)) h (λ q. (omega arith, omega arith))
   course_bounded pair =
       or_fault n (node_count r) (child_is r (node_x r n) (n + 1)) (second go r n (go (n + 1))) h (λ q. to_second (go (n + 1)) (to_child (node_x r n) q))
   course_bounded modal =
       or_fault n (node_count r) (ltb (node_x r n) entries && child_is r (node_y r n) (n + 1)) (go (n + 1)) h
       (λ q. to_child (node_y r n) (and_parts (ltb (node_x r n) entries) (child_is r (node_y r n) (n + 1)) q).1)
-  course_bounded variable = or_fault n (node_count r) (eqb (node_y r n) 0) (Ends (n + 1)) h (λ q. (omega arith, omega arith))
+  course_bounded variable = or_fault n (node_count r) (eqb (node_y r n) 0) (Ok (n + 1)) h (λ q. (omega arith, omega arith))
   course_bounded binder = or_fault n (node_count r) (child_is r (node_y r n) (n + 1)) (go (n + 1)) h (to_child (node_y r n))
   course_bounded unknown = (omega arith, h)
 

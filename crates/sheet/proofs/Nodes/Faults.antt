@@ -14,8 +14,8 @@ use Rattle.sheet.specs.Rule.{child_is, fault_at, second, course, extent, first_f
 use Rattle.sheet.specs.WellFormed.{Subtree}
 use Rattle.sheet.specs.FirstFault.{Pair, Modal, Binder, Child, NodeFault, FirstFault, RuleFault, FaultsInPreorder}
 use Rattle.sheet.specs.Internal.Subtrees.{Bounded}
-use Rattle.sheet.specs.declared.Extent.{Extent}
-use Rattle.sheet.specs.declared.Extent.TheVariants.{Ends, Faulty}
+use Rattle.std.specs.Prelude.{Err, Ok}
+use Rattle.sheet.specs.Rule.{Extent}
 use Rattle.sheet.proofs.Checks.Bools.{differ, holds, fails}
 use Rattle.sheet.proofs.Checks.Checks.{and_parts, all}
 use Rattle.sheet.proofs.Nodes.Shapes.{shape_leaf, shape_pair, shape_modal, shape_variable, shape_binder, shape_unknown, ranged, one_of, kinds}
@@ -82,16 +82,16 @@ module _ (entries : ℕ) (r : List ℕ) where
   -- ---- a fault that is found is the first
 
   abbrev Told : ℕ → Extent → Type 0
-  Told n (Ends e) = Unit {0}
-  Told n (Faulty m) = FirstFault entries r n m.0
+  Told n (Ok e) = Unit {0}
+  Told n (Err m) = FirstFault entries r n m.0
 
   told_or : (n : ℕ) (b : Bool) (x : Extent) → (b ≡ false → FirstFault entries r n n) → (b ≡ true → Told n x) → Told n (pick b x (fault_at n))
   told_or n true x f t = t refl
   told_or n false x f t = f refl
 
   told_through : (c n : ℕ) → ((m : ℕ) → FirstFault entries r c m → FirstFault entries r n m) → (x : Extent) → Told c x → Told n x
-  told_through c n f (Ends e) t = tt
-  told_through c n f (Faulty m) t = f m.0 t
+  told_through c n f (Ok e) t = tt
+  told_through c n f (Err m) t = f m.0 t
 
   module _ (depth n : ℕ) (h : node_count r ≤ suc depth + n) (goes : (m : ℕ) → n < m → m < node_count r → Told m (extent depth entries r m)) where
     abbrev go : ℕ → Extent
@@ -102,8 +102,8 @@ module _ (entries : ℕ) (r : List ℕ) where
         told_through (n + 1) n (λ m f. FirstFault.first fine k (subst (λ (i : ℕ). FirstFault entries r i m) (add-one n) f)) (go (n + 1)) (goes (n + 1) (omega arith) (omega arith))
 
     to_second : (NodeFault entries r n → ⊥) → Pair r n → suc n < node_count r → (x : Extent) → go (n + 1) ≡ x → Told n x → Told n (second go r n x)
-    to_second fine k l (Faulty m) q t = t
-    to_second fine k l (Ends e) q t =
+    to_second fine k l (Err m) q t = t
+    to_second fine k l (Ok e) q t =
         let w = extent_subtree entries r depth (n + 1) e q in
         let s : Subtree entries r (suc n) e = subst (λ (i : ℕ). Subtree entries r i e) (add-one n) w.0 in
         told_or n (child_is r (node_y r n) e) (go e) (λ b. FirstFault.second_number fine k s (w.1 (omega arith)) (no_child r (node_y r n) e b))
@@ -114,7 +114,7 @@ module _ (entries : ℕ) (r : List ℕ) where
     course_told =
         let At : Shape → Type 0 = λ s. Told n (course go entries r n s) in
         kinds (node_kind r n)
-        (λ k. subst At (sym (shape_leaf (node_kind r n) k)) (told_or n (eqb (node_x r n) 0 && eqb (node_y r n) 0) (Ends (n + 1)) (leaf_fault k) (λ b. tt)))
+        (λ k. subst At (sym (shape_leaf (node_kind r n) k)) (told_or n (eqb (node_x r n) 0 && eqb (node_y r n) 0) (Ok (n + 1)) (leaf_fault k) (λ b. tt)))
         (λ k l. let g = one_of (node_kind r n) 2 k l in
         subst At (sym (shape_pair (node_kind r n) k l))
         (told_or n (child_is r (node_x r n) (n + 1)) (second go r n (go (n + 1))) (λ b. FirstFault.itself (NodeFault.pair_child g (no_next r (node_x r n) n b)))
@@ -128,7 +128,7 @@ module _ (entries : ℕ) (r : List ℕ) where
         let c = next_child r (node_y r n) n p.1 in
         to_first (fine_modal n g (ltb-true (node_x r n) entries p.0) c) (inr (inl g)) c.among)))
         (λ k. subst At (sym (shape_variable (node_kind r n) k))
-        (told_or n (eqb (node_y r n) 0) (Ends (n + 1)) (λ b. FirstFault.itself (NodeFault.variable_y k (eqb-false (node_y r n) 0 b))) (λ b. tt)))
+        (told_or n (eqb (node_y r n) 0) (Ok (n + 1)) (λ b. FirstFault.itself (NodeFault.variable_y k (eqb-false (node_y r n) 0 b))) (λ b. tt)))
         (λ k l. let g = one_of (node_kind r n) 7 k l in
         subst At (sym (shape_binder (node_kind r n) k l))
         (told_or n (child_is r (node_y r n) (n + 1)) (go (n + 1)) (λ b. FirstFault.itself (NodeFault.binder_child g (no_next r (node_y r n) n b)))
@@ -193,13 +193,13 @@ module _ (entries : ℕ) (r : List ℕ) where
     node_found : NodeFault entries r n → extent (suc depth) entries r n ≡ fault_at n
     node_found (NodeFault.kind k) = extent_suc entries r depth n unknown (shape_unknown (node_kind r n) k)
     node_found (NodeFault.constant_x k q) =
-        leaf_is k ∙ left (eqb (node_x r n) 0 && eqb (node_y r n) 0) (Ends (n + 1)) (fault_at n)
+        leaf_is k ∙ left (eqb (node_x r n) 0 && eqb (node_y r n) 0) (Ok (n + 1)) (fault_at n)
         (fails (eqb (node_x r n) 0 && eqb (node_y r n) 0) (λ b. q (eqb-true (node_x r n) 0 (and_parts (eqb (node_x r n) 0) (eqb (node_y r n) 0) b).0)))
     node_found (NodeFault.constant_y k q) =
-        leaf_is k ∙ left (eqb (node_x r n) 0 && eqb (node_y r n) 0) (Ends (n + 1)) (fault_at n)
+        leaf_is k ∙ left (eqb (node_x r n) 0 && eqb (node_y r n) 0) (Ok (n + 1)) (fault_at n)
         (fails (eqb (node_x r n) 0 && eqb (node_y r n) 0) (λ b. q (eqb-true (node_y r n) 0 (and_parts (eqb (node_x r n) 0) (eqb (node_y r n) 0) b).1)))
     node_found (NodeFault.variable_y k q) =
-        extent_suc entries r depth n variable (shape_variable (node_kind r n) k) ∙ left (eqb (node_y r n) 0) (Ends (n + 1)) (fault_at n) (ne_eqb (node_y r n) 0 q)
+        extent_suc entries r depth n variable (shape_variable (node_kind r n) k) ∙ left (eqb (node_y r n) 0) (Ok (n + 1)) (fault_at n) (ne_eqb (node_y r n) 0 q)
     node_found (NodeFault.entry k q) =
         modal_is k ∙ left (ltb (node_x r n) entries && child_is r (node_y r n) (n + 1)) (on (n + 1)) (fault_at n)
         (fails (ltb (node_x r n) entries && child_is r (node_y r n) (n + 1))
@@ -226,7 +226,7 @@ module _ (entries : ℕ) (r : List ℕ) where
 
       -- after a first child's part that ends at e
       module _ (k : Pair r n) (e : ℕ) (s : Subtree entries r (suc n) e) (within : e ≤ node_count r) (enough : node_count r ≤ suc depth + n) where
-        after_first : extent (suc depth) entries r n ≡ second on r n (Ends e)
+        after_first : extent (suc depth) entries r n ≡ second on r n (Ok e)
         after_first = pair_on k ∙ ap (second on r n) (ap on (add-one n) ∙ subtree_extent entries r depth (suc n) e s within (omega arith))
 
         number_found : (Child r (node_y r n) e → ⊥) → extent (suc depth) entries r n ≡ fault_at n
@@ -256,8 +256,8 @@ module _ (entries : ℕ) (r : List ℕ) where
 
   module _ (some : 1 ≤ node_count r) where
     place_within : (x : Extent) → Bounded 0 (node_count r) x → first_fault x ≤ node_count r
-    place_within (Ends e) b = b.1
-    place_within (Faulty m) b = omega (arith, b.1)
+    place_within (Ok e) b = b.1
+    place_within (Err m) b = omega (arith, b.1)
 
     within : syntax_fault entries r ≤ node_count r
     within = place_within (extent (node_count r) entries r 0) (extent_bounded entries r (node_count r) 0 some (omega arith))
@@ -274,10 +274,10 @@ module _ (entries : ℕ) (r : List ℕ) where
     found_fault m q l = look (extent (node_count r) entries r 0) refl q
       where
         look : (x : Extent) → extent (node_count r) entries r 0 ≡ x → first_fault (extent (node_count r) entries r 0) ≡ m → RuleFault entries r m
-        look (Ends e) p s =
+        look (Ok e) p s =
             let g : e ≡ m = sym (ap first_fault p) ∙ s in
             RuleFault.left_over (subst (Subtree entries r 0) g (extent_subtree entries r (node_count r) 0 e p).0) l
-        look (Faulty k) p s =
+        look (Err k) p s =
             let g : k.0 ≡ m = sym (ap first_fault p) ∙ s in
             RuleFault.inside (subst (FirstFault entries r 0) g (subst (Told 0) p (extent_told (node_count r) 0 some (omega arith))))
 

@@ -13,8 +13,8 @@ use Rattle.sheet.specs.Rule.{child_is, fault_at, second, course, extent, first_f
 use Rattle.sheet.specs.WellFormed.{Subtree}
 use Rattle.sheet.specs.Subtrees.{Walked, Subtrees}
 use Rattle.sheet.specs.Internal.Subtrees.{Bounded}
-use Rattle.sheet.specs.declared.Extent.{Extent}
-use Rattle.sheet.specs.declared.Extent.TheVariants.{Ends, Faulty}
+use Rattle.std.specs.Prelude.{Err, Ok}
+use Rattle.sheet.specs.Rule.{Extent}
 use Rattle.sheet.proofs.Checks.Checks.{and_parts}
 use Rattle.sheet.proofs.Nodes.Extents.{child, extent_subtree, subtree_extent, extent_bounded}
 
@@ -29,8 +29,8 @@ module _ (entries : ℕ) (r : List ℕ) (go go' : ℕ → Extent) (n : ℕ) (sam
   child_same c q = same (n + 1) (omega arith) (child r c (n + 1) q).1
 
   second_same : (x : Extent) → Bounded (n + 1) (node_count r) x → second go r n x ≡ second go' r n x
-  second_same (Faulty m) b = refl
-  second_same (Ends e) b = pick_same n (child_is r (node_y r n) e) (λ q. same e (omega (arith, b.0)) (child r (node_y r n) e q).1)
+  second_same (Err m) b = refl
+  second_same (Ok e) b = pick_same n (child_is r (node_y r n) e) (λ q. same e (omega (arith, b.0)) (child r (node_y r n) e q).1)
 
   course_same : (s : Shape) → course go entries r n s ≡ course go' entries r n s
   course_same leaf = refl
@@ -77,8 +77,8 @@ module _ (entries : ℕ) (r : List ℕ) where
     where
       go : (x : Extent) → extent (node_count r) entries r 0 ≡ x → Bounded 0 (node_count r) x → first_fault (extent (node_count r) entries r 0) ≡ node_count r
           → Subtree entries r 0 (node_count r)
-      go (Ends e) q b s = subst (Subtree entries r 0) (sym (ap first_fault q) ∙ s) (extent_subtree entries r (node_count r) 0 e q).0
-      go (Faulty m) q b s = absurd (omega (arith, ap first_fault q))
+      go (Ok e) q b s = subst (Subtree entries r 0) (sym (ap first_fault q) ∙ s) (extent_subtree entries r (node_count r) 0 e q).0
+      go (Err m) q b s = absurd (omega (arith, ap first_fault q))
 
 pub subtrees : Subtrees
 subtrees = record { walked = walk; faultless = whole_iff }

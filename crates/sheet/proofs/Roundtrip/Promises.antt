@@ -13,20 +13,17 @@ use Rattle.sheet.specs.Writing.{sheet_of, sheet_length, write_check, leaves, out
 use Rattle.sheet.specs.RunningCalls.{AllBytes, Reads, Writes}
 use Rattle.sheet.specs.RoundTrip.{bytes_of, spans_of, ReadBack, WrittenBack, RoundTrip}
 use Rattle.sheet.specs.declared.Bodies.{Bodies}
-use Rattle.sheet.specs.declared.Check.{Check}
-use Rattle.sheet.specs.declared.Check.TheVariants.{Passed}
-use Rattle.sheet.specs.declared.Read.{Read}
-use Rattle.sheet.specs.declared.Read.TheVariants.{Accepted}
-use Rattle.sheet.specs.declared.Written.{Written}
-use Rattle.sheet.specs.declared.Written.TheVariants.{Wrote}
+use Rattle.std.specs.Prelude.{Result, Ok}
+use Rattle.sheet.specs.declared.Refusal.{Refusal}
+use Rattle.sheet.specs.Refusals.{Check}
 use Rattle.sheet.proofs.Acceptance.Sheet.{bodies_iff}
 use Rattle.sheet.proofs.Acceptance.Calls.{was_accepted, was_written, written_bodies, writes}
 use Rattle.sheet.proofs.Acceptance.Parts.{bodies_kept}
 use Rattle.sheet.proofs.Roundtrip.RoundTrip.{plan_there, actions_there, rule_there, written_answer, written_read, written_length}
 
 -- reading what the writer wrote gives back the three bodies
-pub write_then_read : (p a r out : List ℕ) (n : ℕ) (out' : List ℕ) → Writes p a r out (Wrote n) out'
-    → (answer : Read) → Reads (take n out') answer → ReadBack p a r (take n out') answer
+pub write_then_read : (p a r out : List ℕ) (n : ℕ) (out' : List ℕ) → Writes p a r out (Ok n) out'
+    → (answer : Result Bodies Refusal) → Reads (take n out') answer → ReadBack p a r (take n out') answer
 unfolding output_after
 write_then_read p a r out n out' w answer c =
     let q = was_written p a r out n w.0 in
@@ -43,11 +40,11 @@ write_then_read p a r out n out' w answer c =
     }
 
 -- writing the bodies of an accepted sheet gives back its bytes
-module _ (s : List ℕ) (bytes : AllBytes s) (e : sheet_check s ≡ Passed) (out : List ℕ) (room : length s ≤ length out) where
+module _ (s : List ℕ) (bytes : AllBytes s) (e : sheet_check s ≡ Ok tt) (out : List ℕ) (room : length s ≤ length out) where
   same : sheet_of (plan_body s) (actions_body s) (rule_body s) ≡ s
   same = written_read s bytes e
 
-  checked : bodies_check (plan_body s) (actions_body s) (rule_body s) ≡ Passed
+  checked : bodies_check (plan_body s) (actions_body s) (rule_body s) ≡ Ok tt
   checked = (bodies_iff (plan_body s) (actions_body s) (rule_body s)).1 (bodies_kept s e)
 
   size : sheet_length (plan_body s) (actions_body s) (rule_body s) ≡ length s
@@ -59,16 +56,16 @@ module _ (s : List ℕ) (bytes : AllBytes s) (e : sheet_check s ≡ Passed) (out
       rw (checked, le-leb (sheet_length (plan_body s) (actions_body s) (rule_body s)) (length out) (omega (arith, size)))
       (ap (λ (x : List ℕ). x ++ drop (length x) out) same)
 
-  back : (answer : Written) (out' : List ℕ) → Writes (plan_body s) (actions_body s) (rule_body s) out answer out' → WrittenBack s out answer out'
+  back : (answer : Result ℕ Refusal) (out' : List ℕ) → Writes (plan_body s) (actions_body s) (rule_body s) out answer out' → WrittenBack s out answer out'
   back answer out' w =
       let left : out' ≡ s ++ drop (length s) out = w.1.1 ∙ leaves_sheet in
       record {
-        wrote = w.0 ∙ (writes (plan_body s) (actions_body s) (rule_body s) out checked (omega (arith, size)) ∙ ap Wrote size);
+        wrote = w.0 ∙ (writes (plan_body s) (actions_body s) (rule_body s) out checked (omega (arith, size)) ∙ ap Ok size);
         sheet_back = ap (take (length s)) left ∙ take_at s (drop (length s) out) (length s) refl;
         rest_kept = ap (drop (length s)) left ∙ drop_at s (drop (length s) out) (length s) refl;
       }
 
-pub read_then_write : (s : List ℕ) (b : Bodies) → Reads s (Accepted b) → (out : List ℕ) (answer : Written) (out' : List ℕ)
+pub read_then_write : (s : List ℕ) (b : Bodies) → Reads s (Ok b) → (out : List ℕ) (answer : Result ℕ Refusal) (out' : List ℕ)
     → Writes (bytes_of s b.plan) (bytes_of s b.actions) (bytes_of s b.rule) out answer out'
     → length s ≤ length out → WrittenBack s out answer out'
 read_then_write s b c out answer out' w room =

@@ -13,8 +13,7 @@ use Rattle.sheet.specs.Writing.{head, sheet_of, sheet_length}
 use Rattle.sheet.specs.WellFormed.{WellFormedBodies, WellFormedSheet}
 use Rattle.sheet.specs.RunningCalls.{AllBytes}
 use Rattle.sheet.specs.RoundTrip.{bytes_of, spans_of}
-use Rattle.sheet.specs.declared.Check.TheVariants.{Passed}
-use Rattle.sheet.specs.declared.Read.TheVariants.{Accepted}
+use Rattle.std.specs.Prelude.{Ok}
 use Rattle.sheet.proofs.Acceptance.Sheet.{BodyLengths, body_lengths, bodies_iff, accepted_iff, read_accepts, plan_length_lem, actions_length_lem, rule_length_lem}
 
 -- a number below 65,536 is read from the two bytes that hold it
@@ -89,14 +88,14 @@ module _ (p a r : List ℕ) (k : WellFormedBodies p a r) where
       }
 
 -- the sheet of accepted bodies is accepted, and the reader gives their offsets and lengths
-pub written_accepted : (p a r : List ℕ) → bodies_check p a r ≡ Passed → sheet_check (sheet_of p a r) ≡ Passed
+pub written_accepted : (p a r : List ℕ) → bodies_check p a r ≡ Ok tt → sheet_check (sheet_of p a r) ≡ Ok tt
 written_accepted p a r q = (accepted_iff (sheet_of p a r)).1 (kept p a r ((bodies_iff p a r).0 q))
 
-pub written_answer : (p a r : List ℕ) → bodies_check p a r ≡ Passed → read_of (sheet_of p a r) ≡ Accepted (spans_of p a r)
+pub written_answer : (p a r : List ℕ) → bodies_check p a r ≡ Ok tt → read_of (sheet_of p a r) ≡ Ok (spans_of p a r)
 written_answer p a r q =
     let k = (bodies_iff p a r).0 q in
     (read_accepts (sheet_of p a r)).1 (kept p a r k) ∙
-    (λ i. Accepted (record {
+    (λ i. Ok (record {
       plan = record { offset = 17; length = plan_stated p a r k i };
       actions = record { offset = 17 + plan_stated p a r k i; length = actions_stated p a r k i };
       rule = record { offset = 17 + plan_stated p a r k i + actions_stated p a r k i; length = rule_stated p a r k i };
@@ -141,7 +140,7 @@ module _ (s : List ℕ) (bytes : AllBytes s) (k : WellFormedSheet s) where
       take-append-drop (plan_length s) (drop head_length s)
 
 -- writing an accepted sheet's bodies gives back its bytes, byte for byte
-pub written_read : (s : List ℕ) → AllBytes s → sheet_check s ≡ Passed → sheet_of (plan_body s) (actions_body s) (rule_body s) ≡ s
+pub written_read : (s : List ℕ) → AllBytes s → sheet_check s ≡ Ok tt → sheet_of (plan_body s) (actions_body s) (rule_body s) ≡ s
 unfolding sheet_of
 written_read s bytes q =
     let k = (accepted_iff s).0 q in

@@ -8,8 +8,8 @@ use lib.Dec.{eqb, ltb}
 use Rattle.sheet.specs.Rule.{node_count, node_kind, node_x, node_y, Shape, shape_of, child_is, fault_at, second, course, extent, first_fault, syntax_fault}
 use Rattle.sheet.specs.Internal.Subtrees.{NodeOf, Bounded, Ended}
 use Rattle.sheet.specs.declared.Node.{Node}
-use Rattle.sheet.specs.declared.Extent.{Extent}
-use Rattle.sheet.specs.declared.Extent.TheVariants.{Ends, Faulty}
+use Rattle.std.specs.Prelude.{Err, Ok}
+use Rattle.sheet.specs.Rule.{Extent}
 use Rattle.sheet.proofs.Checks.Checks.{and_parts}
 use Rattle.sheet.proofs.Nodes.Shapes.{shape_leaf, shape_pair, shape_modal, shape_variable, shape_binder, shape_unknown}
 use Rattle.sheet.proofs.Nodes.Extents.{child as is_child, bounded_from}
@@ -39,16 +39,16 @@ module _ (entries : ℕ) (r : List ℕ) (n : ℕ) (node : NodeOf r n) where
   faulty_here : Bounded n (node_count r) (fault_at n)
   faulty_here = (omega arith, node.among)
 
-  ends_here : Bounded n (node_count r) (Ends (n + 1))
+  ends_here : Bounded n (node_count r) (Ok (n + 1))
   ends_here = (omega arith, omega (arith, node.among))
 
-  pub ended_leaf : node_kind r n < 2 → (eqb (node_x r n) 0 && eqb (node_y r n) 0) ≡ true → Ended entries r n (Ends (n + 1))
+  pub ended_leaf : node_kind r n < 2 → (eqb (node_x r n) 0 && eqb (node_y r n) 0) ≡ true → Ended entries r n (Ok (n + 1))
   ended_leaf k e = record { is = λ d h. here d _ _ h (shape_leaf (node_kind r n) k) (rw e); bounded = ends_here }
 
   pub ended_leaf_fault : node_kind r n < 2 → (eqb (node_x r n) 0 && eqb (node_y r n) 0) ≡ false → Ended entries r n (fault_at n)
   ended_leaf_fault k e = record { is = λ d h. here d _ _ h (shape_leaf (node_kind r n) k) (rw e); bounded = faulty_here }
 
-  pub ended_variable : node_kind r n ≡ 6 → eqb (node_y r n) 0 ≡ true → Ended entries r n (Ends (n + 1))
+  pub ended_variable : node_kind r n ≡ 6 → eqb (node_y r n) 0 ≡ true → Ended entries r n (Ok (n + 1))
   ended_variable k e = record { is = λ d h. here d _ _ h (shape_variable (node_kind r n) k) (rw e); bounded = ends_here }
 
   pub ended_variable_fault : node_kind r n ≡ 6 → eqb (node_y r n) 0 ≡ false → Ended entries r n (fault_at n)
@@ -85,25 +85,25 @@ module _ (entries : ℕ) (r : List ℕ) (n : ℕ) (node : NodeOf r n) where
           here depth _ _ h (shape_pair (node_kind r n) k l)
           (rw e (ap (second (extent (depth - 1) entries r) r n) (below depth h) ∙ f))
 
-      pub ended_first_fault : (m : Node) → x ≡ Faulty m → Ended entries r n (Faulty m)
+      pub ended_first_fault : (m : Node) → x ≡ Err m → Ended entries r n (Err m)
       ended_first_fault m q =
           record { is = λ d h. paired d _ h (ap (second (extent (d - 1) entries r) r n) q); bounded = rw q at carried }
 
-      pub ended_second_fault : (m : ℕ) → x ≡ Ends m → child_is r (node_y r n) m ≡ false → Ended entries r n (fault_at n)
+      pub ended_second_fault : (m : ℕ) → x ≡ Ok m → child_is r (node_y r n) m ≡ false → Ended entries r n (fault_at n)
       ended_second_fault m q f =
           record { is = λ d h. paired d _ h (ap (second (extent (d - 1) entries r) r n) q ∙ rw f); bounded = faulty_here }
 
-      pub ended_pair : (m : ℕ) (y : Extent) → x ≡ Ends m → child_is r (node_y r n) m ≡ true → Ended entries r m y → Ended entries r n y
+      pub ended_pair : (m : ℕ) (y : Extent) → x ≡ Ok m → child_is r (node_y r n) m ≡ true → Ended entries r m y → Ended entries r n y
       ended_pair m y q f next =
-          let b : Bounded n (node_count r) (Ends m) = rw q at carried in
+          let b : Bounded n (node_count r) (Ok m) = rw q at carried in
           record {
             is = λ d h. paired d _ h (ap (second (extent (d - 1) entries r) r n) q ∙ rw f (next.is (d - 1) (omega (arith, node.among, b.0))));
             bounded = bounded_from n m (node_count r) y (omega (arith, b.0)) next.bounded;
           }
 
 -- where the first child's subtree ends, its parent has a later node to go on with
-pub later : (entries : ℕ) (r : List ℕ) (n m : ℕ) (x : Extent) → Ended entries r (n + 1) x → x ≡ Ends m → n + 1 < m
-later entries r n m x child q = let b : Bounded (n + 1) (node_count r) (Ends m) = rw q at child.bounded in b.0
+pub later : (entries : ℕ) (r : List ℕ) (n m : ℕ) (x : Extent) → Ended entries r (n + 1) x → x ≡ Ok m → n + 1 < m
+later entries r n m x child q = let b : Bounded (n + 1) (node_count r) (Ok m) = rw q at child.bounded in b.0
 
 pub root_fault : (entries : ℕ) (r : List ℕ) (x : Extent) → Ended entries r 0 x → first_fault x ≡ syntax_fault entries r
 root_fault entries r x e = ap first_fault (sym (e.is (node_count r) (omega arith)))
@@ -112,5 +112,5 @@ pub root_bound : (entries : ℕ) (r : List ℕ) (x : Extent) → Ended entries r
 root_bound entries r x e = go x e.bounded
   where
     go : (y : Extent) → Bounded 0 (node_count r) y → first_fault y ≤ node_count r
-    go (Ends m) b = b.1
-    go (Faulty m) b = omega (arith, b.1)
+    go (Ok m) b = b.1
+    go (Err m) b = omega (arith, b.1)

@@ -15,7 +15,7 @@ use Rattle.sheet.specs.Reading.{bodies_check, sheet_check}
 use Rattle.sheet.specs.Internal.Entry.{heading_at, entry_fits, entries_fit, check_taken, check_in_order}
 use Rattle.sheet.specs.declared.contents.Entry.{Entry}
 use Rattle.sheet.specs.declared.Refusal.TheVariants.{Heading, Contents}
-use Rattle.sheet.specs.declared.Check.TheVariants.{Failed}
+use Rattle.std.specs.Prelude.{Err}
 
 module _ (s : List ℕ) (at : ℕ) where
   pub heading_edition : byte s at ≡ 1 → heading_at s at ≡ eqb (byte s (at + 1)) 3
@@ -61,11 +61,11 @@ module _ (plan actions rule : Entry) (end : ℕ) where
         fit_whole h = rw (e, ap (entry_fits actions 2) (sym at_second) ∙ f, ap (entry_fits rule 3) (sym at-third) ∙ g, eq-eqb end (head_length + plan.length + actions.length + rule.length) h)
 
 module _ (heading : Bool) (plan actions rule : Entry) (bodies : List ℕ) where
-  pub taken_headed : heading ≡ false → Failed Heading ≡ check_taken heading plan actions rule bodies
+  pub taken_headed : heading ≡ false → Err Heading ≡ check_taken heading plan actions rule bodies
   unfolding check_taken
   taken_headed e = rw e
 
-  pub taken_contents : heading ≡ true → entries_fit plan actions rule (head_length + length bodies) ≡ false → Failed Contents ≡ check_taken heading plan actions rule bodies
+  pub taken_contents : heading ≡ true → entries_fit plan actions rule (head_length + length bodies) ≡ false → Err Contents ≡ check_taken heading plan actions rule bodies
   unfolding check_taken
   taken_contents e f = rw (e, f)
 

@@ -13,9 +13,7 @@ use Rattle.sheet.specs.RunningCalls.{Writes}
 use Rattle.sheet.specs.Internal.Room.{Room}
 use Rattle.sheet.specs.declared.Refusal.{Refusal}
 use Rattle.sheet.specs.declared.Refusal.TheVariants.{OutputShort}
-use Rattle.sheet.specs.declared.Check.TheVariants.{Passed, Failed}
-use Rattle.sheet.specs.declared.Written.{Written}
-use Rattle.sheet.specs.declared.Written.TheVariants.{Wrote, Refused}
+use Rattle.std.specs.Prelude.{Result, Err, Ok}
 use Rattle.sheet.proofs.Acceptance.Sheet.{BodyLengths, body_lengths, bodies_iff}
 use Rattle.sheet.proofs.Roundtrip.RoundTrip.{written_length}
 
@@ -39,7 +37,7 @@ next_copy done out src at e =
         (ap (drop (length src)) (lib.Seq.drop_at done (drop at out) at e) ∙ drop-drop (length src) at out)
 
 module _ (p a r out : List ℕ) where
-  answers : (w : Written) (now : List ℕ) → w ≡ written_of p a r (length out) → now ≡ output_after p a r out → Writes p a r out w now
+  answers : (w : Result ℕ Refusal) (now : List ℕ) → w ≡ written_of p a r (length out) → now ≡ output_after p a r out → Writes p a r out w now
   answers w now e f = (e, (ap reported_write e, f))
 
   pub copied : (one two three four : List ℕ) → one ≡ paste out 0 (head (length p) (length a) (length r)) 17 → two ≡ paste one 17 p (length p)
@@ -57,22 +55,22 @@ module _ (p a r out : List ℕ) where
       next_copy ((start ++ p) ++ a) out r (17 + length p + length a) (length-append (start ++ p) a ∙ ap (λ (k : ℕ). k + length a) (length-append start p))) in
       whole ∙ ap (λ (x : List ℕ). x ++ drop (sheet_length p a r) out) (append_assoc (start ++ p) a r ∙ append_assoc start p (a ++ r))
 
-  pub refused : (x : Refusal) → bodies_check p a r ≡ Failed x → Writes p a r out (Refused x) out
+  pub refused : (x : Refusal) → bodies_check p a r ≡ Err x → Writes p a r out (Err x) out
   unfolding written_of output_after write_check
-  refused x e = answers (Refused x) out (rw e) (rw e)
+  refused x e = answers (Err x) out (rw e) (rw e)
 
-  module _ (e : bodies_check p a r ≡ Passed) where
-    pub short : length out < sheet_length p a r → Writes p a r out (Refused OutputShort) out
+  module _ (e : bodies_check p a r ≡ Ok tt) where
+    pub short : length out < sheet_length p a r → Writes p a r out (Err OutputShort) out
     unfolding written_of output_after write_check
     short h =
         let f = lt-leb (sheet_length p a r) (length out) h in
-        answers (Refused OutputShort) out (rw (e, f)) (rw (e, f))
+        answers (Err OutputShort) out (rw (e, f)) (rw (e, f))
 
-    pub wrote : sheet_length p a r ≤ length out → (now : List ℕ) → now ≡ sheet_of p a r ++ drop (sheet_length p a r) out → Writes p a r out (Wrote (sheet_length p a r)) now
+    pub wrote : sheet_length p a r ≤ length out → (now : List ℕ) → now ≡ sheet_of p a r ++ drop (sheet_length p a r) out → Writes p a r out (Ok (sheet_length p a r)) now
     unfolding written_of output_after write_check
     wrote h now f =
         let g = le-leb (sheet_length p a r) (length out) h in
-        answers (Wrote (sheet_length p a r)) now (rw (e, g))
+        answers (Ok (sheet_length p a r)) now (rw (e, g))
         (f ∙ rw (e, g) (ap (λ (n : ℕ). sheet_of p a r ++ drop n out) (sym (written_length p a r))))
 
     -- accepted bodies have lengths that two bytes hold

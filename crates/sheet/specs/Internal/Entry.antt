@@ -6,7 +6,7 @@ use Rattle.sheet.specs.Refusals.{require, and_then}
 use Rattle.sheet.specs.Reading.{bodies_check}
 use Rattle.sheet.specs.declared.contents.Entry.{Entry}
 use Rattle.sheet.specs.declared.Refusal.TheVariants.{Heading, Contents}
-use Rattle.sheet.specs.declared.Check.{Check}
+use Rattle.sheet.specs.Refusals.{Check}
 
 -- "1 (edition)" and "3 (entries)" at a byte and the next
 unfoldable pub heading_at : List ℕ → ℕ → Bool

@@ -10,7 +10,7 @@ pub returns-then-k-gt-MOST_BENCHES : goal.returns-then-k-gt-MOST_BENCHES
 returns-then-k-gt-MOST_BENCHES c = wrong_bench_count c.args.sheet.now c.args.states.now c.args.tables.now (too_many_given c.args.states.now c.if-k-eq0.false c.if-k-gt-MOST_BENCHES.true) c.args.allowance c.refused-then-k-gt-MOST_BENCHES.ensures
 
 pub grant_accepted-requires : goal.grant_accepted-requires
-grant_accepted-requires c = record { accepted = sym c.check-checked.ensures.value ∙ c.in-Passed.is; some = omega (arith, c.if-k-eq0.false); few = omega (arith, c.if-k-gt-MOST_BENCHES.false) }
+grant_accepted-requires c = record { accepted = sym c.check-checked.ensures.value ∙ c.in-Ok.is; some = omega (arith, c.if-k-eq0.false); few = omega (arith, c.if-k-gt-MOST_BENCHES.false) }
 
-pub returns-in-Failed : goal.returns-in-Failed
-returns-in-Failed c = sheet_turned_down c.args.sheet.now c.args.states.now c.args.tables.now (sym c.check-checked.ensures.value ∙ c.in-Failed.is) c.if-k-eq0.false (omega (arith, c.if-k-gt-MOST_BENCHES.false)) c.args.allowance c.refused-in-Failed.ensures
+pub returns-in-Err : goal.returns-in-Err
+returns-in-Err c = sheet_turned_down c.args.sheet.now c.args.states.now c.args.tables.now (sym c.check-checked.ensures.value ∙ c.in-Err.is) c.if-k-eq0.false (omega (arith, c.if-k-gt-MOST_BENCHES.false)) c.args.allowance c.refused-in-Err.ensures

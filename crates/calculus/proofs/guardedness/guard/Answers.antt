@@ -5,14 +5,14 @@ use Rattle.calculus.proofs.Definition2.GuardSteps.{guard_start, guard_refused, g
 use Rattle.calculus.proofs.guardedness.guard.Goals as goal
 
 pub guarded_since-requires : goal.guarded_since-requires
-guarded_since-requires c = guard_start _ (sym c.check-checked.ensures.value ∙ c.in-Passed.is) _ c.rule_body.ensures
+guarded_since-requires c = guard_start _ (sym c.check-checked.ensures.value ∙ c.in-Ok.is) _ c.rule_body.ensures
 
-pub returns-in-Failed : goal.returns-in-Failed
-returns-in-Failed c =
-    let e = guard_refused _ _ (sym c.check-checked.ensures.value ∙ c.in-Failed.is) in
+pub returns-in-Err : goal.returns-in-Err
+returns-in-Err c =
+    let e = guard_refused _ _ (sym c.check-checked.ensures.value ∙ c.in-Err.is) in
     (e, ap reported_guard e)
 
-pub returns-in-Passed : goal.returns-in-Passed
-returns-in-Passed c =
-    let e = guard_answered _ (sym c.check-checked.ensures.value ∙ c.in-Passed.is) _ c.rule_body.ensures _ c.guarded_since.ensures in
+pub returns-in-Ok : goal.returns-in-Ok
+returns-in-Ok c =
+    let e = guard_answered _ (sym c.check-checked.ensures.value ∙ c.in-Ok.is) _ c.rule_body.ensures _ c.guarded_since.ensures in
     (e, ap reported_guard e)

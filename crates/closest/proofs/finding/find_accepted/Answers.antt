@@ -7,7 +7,7 @@ use lib.Seq.{length-take-le}
 use Rattle.sheet.specs.Contents.{plan_body}
 use Rattle.sheet.specs.Reading.{sheet_check}
 use Rattle.sheet.specs.WellFormed.{WellFormedPlan}
-use Rattle.sheet.specs.declared.Check.TheVariants.{Passed}
+use Rattle.std.specs.Prelude.{Ok}
 use Rattle.sheet.proofs.Acceptance.Parts.{bodies_kept}
 use Rattle.closest.specs.Internal.Distances.{StepsMarked}
 use Rattle.closest.specs.Internal.Ordering.{Ordered}
@@ -26,7 +26,7 @@ module _ (c : After-order_states-count) where
   abbrev sheet : List ℕ
   sheet = start.args.sheet.now
 
-  abbrev accepted : sheet_check sheet ≡ Passed
+  abbrev accepted : sheet_check sheet ≡ Ok tt
   accepted = start.requires
 
   marked : StepsMarked (plan_body sheet) c.order_states-count.new.marks

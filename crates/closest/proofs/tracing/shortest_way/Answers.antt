@@ -18,14 +18,14 @@ module _ (c : After-state_count) where
 pub returns-then-state_count-state : goal.returns-then-state_count-state
 returns-then-state_count-state c =
     let a = c.args in
-    traces_no_state a.sheet.now a.state.0 (sym c.check-checked.ensures.value ∙ c.in-Passed.is)
+    traces_no_state a.sheet.now a.state.0 (sym c.check-checked.ensures.value ∙ c.in-Ok.is)
     (omega (arith, c.if-state_count-state.true, counts (goal.at.returns-then-state_count-state c).After-state_count)) a.out.now
 
 pub trace_state-requires : goal.trace_state-requires
 trace_state-requires c =
-    (sym c.check-checked.ensures.value ∙ c.in-Passed.is, omega (arith, c.if-state_count-state.false, counts (goal.at.trace_state-requires c).After-state_count))
+    (sym c.check-checked.ensures.value ∙ c.in-Ok.is, omega (arith, c.if-state_count-state.false, counts (goal.at.trace_state-requires c).After-state_count))
 
-pub returns-in-Failed : goal.returns-in-Failed
-returns-in-Failed c =
+pub returns-in-Err : goal.returns-in-Err
+returns-in-Err c =
     let a = c.args in
-    traces_unread a.sheet.now a.state.0 (sym c.check-checked.ensures.value ∙ c.in-Failed.is) a.out.now
+    traces_unread a.sheet.now a.state.0 (sym c.check-checked.ensures.value ∙ c.in-Err.is) a.out.now

@@ -5,21 +5,21 @@ use Rattle.patterns.proofs.translating.translate.Goals as goal
 
 pub put_body-requires : goal.put_body-requires
 put_body-requires c =
-    call_readable c.args.sheet.now c.args.pattern.now (sym c.check-checked.ensures.value ∙ c.in-Passed.is)
+    call_readable c.args.sheet.now c.args.pattern.now (sym c.check-checked.ensures.value ∙ c.in-Ok.is)
     (readable_is c.args.sheet.now c.args.pattern.now c.actions_body.ensures c.entry_count.ensures c.is_readable.ensures c.if-is_readable.true)
     c.rule_body.ensures
 
 pub returns-then-is_readable : goal.returns-then-is_readable
 returns-then-is_readable c =
-    translates_readable c.args.sheet.now c.args.pattern.now (sym c.check-checked.ensures.value ∙ c.in-Passed.is)
+    translates_readable c.args.sheet.now c.args.pattern.now (sym c.check-checked.ensures.value ∙ c.in-Ok.is)
     (readable_is c.args.sheet.now c.args.pattern.now c.actions_body.ensures c.entry_count.ensures c.is_readable.ensures c.if-is_readable.true)
     c.rule_body.ensures c.put_body.ensures
 
-pub returns-in-Failed : goal.returns-in-Failed
-returns-in-Failed c =
-    translates_refused c.args.sheet.now c.args.pattern.now c.args.out.now (sym c.check-checked.ensures.value ∙ c.in-Failed.is)
+pub returns-in-Err : goal.returns-in-Err
+returns-in-Err c =
+    translates_refused c.args.sheet.now c.args.pattern.now c.args.out.now (sym c.check-checked.ensures.value ∙ c.in-Err.is)
 
 pub returns-else-is_readable : goal.returns-else-is_readable
 returns-else-is_readable c =
-    translates_malformed c.args.sheet.now c.args.pattern.now c.args.out.now (sym c.check-checked.ensures.value ∙ c.in-Passed.is)
+    translates_malformed c.args.sheet.now c.args.pattern.now c.args.out.now (sym c.check-checked.ensures.value ∙ c.in-Ok.is)
     (readable_is c.args.sheet.now c.args.pattern.now c.actions_body.ensures c.entry_count.ensures c.is_readable.ensures c.if-is_readable.false)

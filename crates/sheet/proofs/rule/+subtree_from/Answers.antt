@@ -16,14 +16,14 @@ pub overflow_cast-e : goal.overflow_cast-e
 overflow_cast-e t c =
     let at-first2 = c in
     let start = at-first2 in
-    omega (arith, child_node _ _ start.requires _ at-first2.in-Ends.e (sym c.y_is_child.ensures ∙ c.if-y_is_child.true))
+    omega (arith, child_node _ _ start.requires _ at-first2.in-Ok.e (sym c.y_is_child.ensures ∙ c.if-y_is_child.true))
 
 pub subtree_from-requires : goal.subtree_from-requires
 subtree_from-requires t c =
     let at-first2 = c in
     let at-subtree-from = at-first2 in
     let start = at-subtree-from in (
-      omega (arith, later _ _ _ _ _ at-subtree-from.subtree_from-first.ensures at-first2.in-Ends.is),
+      omega (arith, later _ _ _ _ _ at-subtree-from.subtree_from-first.ensures at-first2.in-Ok.is),
       child_node _ _ start.requires _ _ (sym c.y_is_child.ensures ∙ c.if-y_is_child.true),
     )
 
@@ -53,26 +53,26 @@ returns-then-leaf_right t c = ended_leaf _ _ _ c.requires (omega arith) (sym c.l
 pub returns-else-leaf_right : goal.returns-else-leaf_right
 returns-else-leaf_right t c = ended_leaf_fault _ _ _ c.requires (omega arith) (sym c.leaf_right.ensures ∙ c.if-leaf_right.false)
 
-pub returns-in-Faulty : goal.returns-in-Faulty
-returns-in-Faulty t c =
+pub returns-in-Err : goal.returns-in-Err
+returns-in-Err t c =
     ended_first_fault _ _ _ c.requires _
     c.subtree_from-first.ensures (omega arith) (omega arith)
     (sym c.x_is_child.ensures ∙ c.if-x_is_child.true) _
-    c.in-Faulty.is
+    c.in-Err.is
 
 pub returns-then-y_is_child : goal.returns-then-y_is_child
 returns-then-y_is_child t c =
     ended_pair _ _ _ c.requires _
     c.subtree_from-first.ensures (omega arith) (omega arith)
     (sym c.x_is_child.ensures ∙ c.if-x_is_child.true) _ _
-    c.in-Ends.is (sym c.y_is_child.ensures ∙ c.if-y_is_child.true) c.subtree_from.ensures
+    c.in-Ok.is (sym c.y_is_child.ensures ∙ c.if-y_is_child.true) c.subtree_from.ensures
 
 pub returns-else-y_is_child : goal.returns-else-y_is_child
 returns-else-y_is_child t c =
     ended_second_fault _ _ _ c.requires _
     c.subtree_from-first.ensures (omega arith) (omega arith)
     (sym c.x_is_child.ensures ∙ c.if-x_is_child.true) _
-    c.in-Ends.is (sym c.y_is_child.ensures ∙ c.if-y_is_child.false)
+    c.in-Ok.is (sym c.y_is_child.ensures ∙ c.if-y_is_child.false)
 
 pub returns-else-x_is_child : goal.returns-else-x_is_child
 returns-else-x_is_child t c = ended_pair_fault _ _ _ c.requires (omega arith) (omega arith) (sym c.x_is_child.ensures ∙ c.if-x_is_child.false)
