@@ -4,10 +4,7 @@
 pub mod loops;
 pub mod searching;
 
-ghost use Rattle.std.specs.Prelude.{false};
 ghost use Rattle.graph.specs.Index.{Blank};
-
-use sheet::Refusal;
 
 // How many values a byte has: a plan of any bytes is searched, so there is a place for each that may name a state or an action.
 pub const BYTE_VALUES: usize = 256;
@@ -37,11 +34,3 @@ impl Index {
 pub type Starts = [u8; MOST_STATES];
 
 pub const MOST_STATES: usize = 128;
-
-// Whether a loop can be reached from a state.
-#[derive(Clone, Copy)]
-pub enum LoopSearch {
-    Free,
-    Found,
-    Refused(Refusal),
-}
