@@ -5,8 +5,9 @@ use Rattle.sheet.specs.Bytes.{byte, slice, pick, lowest}
 use Rattle.sheet.specs.Refusals.{number_of, place_of}
 use Rattle.judge.specs.Cells.{table_bytes}
 use Rattle.judge.specs.Querying.{QueryReport, queried_of, table_queried, query_report_of}
-use Rattle.judge.specs.declared.Queried.{Queried}
-use Rattle.judge.specs.declared.Queried.TheVariants.{Judged, WrongCount as QueryWrongCount, Refused as QueryRefused}
+use Rattle.std.specs.Prelude.{Ok, Err}
+use Rattle.judge.specs.Querying.{Queried}
+use Rattle.judge.specs.declared.QueryError.TheVariants.{WrongCount as QueryWrongCount, Refused as QueryRefused}
 use Rattle.allowance.specs.Dealing.{of_bench, deal}
 use Rattle.allowance.specs.declared.Answer.{Answer}
 use Rattle.allowance.specs.declared.Answer.TheVariants.{Dealt, BenchCountWrong, WrongCount, Refused}
@@ -33,9 +34,9 @@ end_to_end table (suc count) i after = table i ++ end_to_end table count (i + 1)
 
 -- what a bench's own refusal answers of the whole call; a query that is not refused turns nothing down
 abbrev pub refusal_of : Queried → Answer
-refusal_of (Judged v n) = Dealt
-refusal_of QueryWrongCount = WrongCount
-refusal_of (QueryRefused x) = Refused x
+refusal_of (Ok j) = Dealt
+refusal_of (Err QueryWrongCount) = WrongCount
+refusal_of (Err (QueryRefused x)) = Refused x
 
 -- "A bench granted its whole need then queries in its own table": its results, q being what its query reports
 abbrev pub queried_bench : ℕ → ℕ → QueryReport → Bench

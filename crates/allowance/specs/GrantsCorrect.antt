@@ -12,9 +12,9 @@ use Rattle.judge.specs.Querying.{QueryReport, reported_query, Queries}
 use Rattle.judge.specs.CallNumbers.{NoLoopAhead}
 use Rattle.judge.specs.Lists.{Calls}
 use Rattle.judge.specs.Auditing.{reported_audit, Audits}
-use Rattle.judge.specs.declared.Cleared.{Cleared}
-use Rattle.judge.specs.declared.Queried.{Queried}
-use Rattle.judge.specs.declared.Audited.{Audited}
+use Rattle.judge.specs.Auditing.{Audited}
+use Rattle.judge.specs.Clearing.{Cleared}
+use Rattle.judge.specs.Querying.{Queried}
 use Rattle.allowance.specs.Dealing.{of_bench}
 use Rattle.allowance.specs.DealingCorrect.{WellDealt}
 use Rattle.allowance.specs.Granting.{most_benches, bench_table, needs_of, grants_of, no_bench, no_benches}

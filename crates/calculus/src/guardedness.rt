@@ -3,10 +3,9 @@ ghost use Rattle.std.specs.Prelude.{◌≡◌};
 ghost use Rattle.calculus.specs.Internal.GuardContracts.{Since, GuardedSince};
 ghost use Rattle.calculus.specs.GuardCheck.{Guards};
 
-use crate::Guard;
 use sheet::reader::{check, rule_body};
 use sheet::rule::{bound_before, node};
-use sheet::{Node, Variable};
+use sheet::{Fields, Node, Refusal, Variable};
 
 // Whether the formula of node n is guarded. Definition 2's set has the variables whose binders stand from node first on: a binder joins it, a modality
 // empties it, and a variable must not be in it.
@@ -14,19 +13,10 @@ fn guarded_since(rule: &[u8], n: Node, first: Node) -> bool
     requires { Since rule.now n.0 first.0 }
     ensures { GuardedSince rule.now n.0 first.0 result }
 {
-    let fields = node(rule, n);
-    let k = fields.kind;
-    let x = fields.x;
-    let y = fields.y;
-    match k {
+    let Fields { kind, x, y } = node(rule, n);
+    match kind {
         0..=1 => true,
-        2..=3 => {
-            if guarded_since(rule, Node(x), first) {
-                guarded_since(rule, Node(y), first)
-            } else {
-                false
-            }
-        }
+        2..=3 => guarded_since(rule, Node(x), first) && guarded_since(rule, Node(y), first),
         4..=5 => guarded_since(rule, Node(y), n),
         6 => bound_before(rule, Variable(x), first),
         7..=8 => guarded_since(rule, Node(y), first),
@@ -35,12 +25,9 @@ fn guarded_since(rule: &[u8], n: Node, first: Node) -> bool
 }
 
 // Yes or no for an accepted sheet, or its refusal.
-pub fn guard(sheet: &[u8]) -> Guard
+pub fn guard(sheet: &[u8]) -> Result<bool, Refusal>
     ensures { Guards sheet.now result }
 {
-    let checked = check(sheet);
-    match checked {
-        Err(x) => Guard::Refused(x),
-        Ok(()) => Guard::Answered(guarded_since(rule_body(sheet), Node(0), Node(0))),
-    }
+    check(sheet)?;
+    Ok(guarded_since(rule_body(sheet), Node(0), Node(0)))
 }

@@ -3,12 +3,3 @@
 
 pub mod guardedness;
 pub mod meeting;
-
-use sheet::Refusal;
-
-// What the guard check answers.
-#[derive(Clone, Copy)]
-pub enum Guard {
-    Answered(bool),
-    Refused(Refusal),
-}

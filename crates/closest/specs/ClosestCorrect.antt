@@ -18,9 +18,9 @@ use Rattle.judge.specs.OneSolution.{changed_rows, ComesTo, OneSolution}
 use Rattle.judge.specs.QueryCorrect.{cell_byte}
 use Rattle.judge.specs.Lists.{Calls, Reported, visits_of}
 use Rattle.judge.specs.Auditing.{reported_audit, Audits}
-use Rattle.judge.specs.declared.Cleared.{Cleared}
-use Rattle.judge.specs.declared.Queried.{Queried}
-use Rattle.judge.specs.declared.Audited.{Audited}
+use Rattle.judge.specs.Auditing.{Audited}
+use Rattle.judge.specs.Clearing.{Cleared}
+use Rattle.judge.specs.Querying.{Queried}
 use Rattle.closest.specs.Steps.{Steps, Earlier}
 use Rattle.closest.specs.Finding.{states_in_order, ClosestReport, reported_closest, refused_report, Finds}
 use Rattle.closest.specs.declared.Closest.{Closest}

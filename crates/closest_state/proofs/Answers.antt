@@ -17,7 +17,7 @@ use Rattle.graph.specs.Search.{most_states}
 use Rattle.rows.specs.Tables.{visits as visits_of}
 use Rattle.judge.specs.Querying.{query_check, count_right}
 use Rattle.judge.specs.Clearing.{clear_check, cleared_of, table_cleared}
-use Rattle.judge.specs.declared.Cleared.{Cleared}
+use Rattle.judge.specs.Clearing.{Cleared}
 use Rattle.judge.specs.declared.Cleared.TheVariants as cleared
 use Rattle.judge.specs.InTurn.{holds_by}
 use Rattle.closest.specs.Finding.{Found, everywhere, fails_at, answer_closest, closest_of, searched, closest_found, reported_closest}

@@ -7,7 +7,7 @@ use Rattle.sheet.specs.Refusals.{number_of, place_of}
 use Rattle.sheet.specs.declared.Refusal.{Refusal}
 use Rattle.judge.specs.Clearing.{cleared_of, table_cleared}
 use Rattle.judge.specs.LargestTable.{largest_table}
-use Rattle.judge.specs.declared.Cleared.{Cleared}
+use Rattle.judge.specs.Clearing.{Cleared}
 use Rattle.judge.specs.declared.Cleared.TheVariants as cleared
 use Rattle.closest.specs.Finding.{closest_of}
 use Rattle.closest.specs.declared.Closest.{Closest}

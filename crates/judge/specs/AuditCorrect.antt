@@ -21,9 +21,9 @@ use Rattle.judge.specs.OneSolution.{LoopFreeCell, OneSolution}
 use Rattle.judge.specs.QueryCorrect.{cell_byte}
 use Rattle.judge.specs.Lists.{JustCleared, table_after, Calls}
 use Rattle.judge.specs.Demand3.{RefusedState}
-use Rattle.judge.specs.declared.Cleared.{Cleared}
-use Rattle.judge.specs.declared.Queried.{Queried}
-use Rattle.judge.specs.declared.Audited.{Audited}
+use Rattle.judge.specs.Auditing.{Audited}
+use Rattle.judge.specs.Clearing.{Cleared}
+use Rattle.judge.specs.Querying.{Queried}
 
 -- "A cell is filled when its byte is 1 or 2.": a cell that has a byte, and is filled
 pub record FilledCell (s t : List ℕ) (c : Cell) : Type 0 where

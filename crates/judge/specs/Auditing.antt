@@ -1,6 +1,6 @@
 -- Document 02 (k): the audit of a filled table, delivered by a supplier whose own program filled it. What it answers, for every list of
 -- bytes as sheet and as table; it changes nothing. The table is to the verdicts what a certificate is: it is checked, not trusted.
-use Rattle.std.specs.Prelude.{◌≡◌, ℕ, zero, suc, Bool, true, false, not, ◌&&◌, List, ◌==◌, Err, Ok}
+use Rattle.std.specs.Prelude.{◌≡◌, ℕ, zero, suc, Bool, true, false, not, ◌&&◌, List, ◌==◌, Err, Ok, Result}
 use Rattle.sheet.specs.Bytes.{pick, lowest}
 use Rattle.sheet.specs.Contents.{plan_body, rule_body}
 use Rattle.sheet.specs.Rule.{binder_node, below}
@@ -13,8 +13,11 @@ use Rattle.graph.specs.LoopTest.{loop_free}
 use Rattle.judge.specs.Cells.{written_rows, position_of, cell_at, cell_bytes}
 use Rattle.judge.specs.Clearing.{clear_check}
 use Rattle.judge.specs.Querying.{bytes_right, count_right}
-use Rattle.judge.specs.declared.Audited.{Audited}
-use Rattle.judge.specs.declared.Audited.TheVariants.{Answered, Refused}
+use Rattle.sheet.specs.declared.Refusal.{Refusal}
+
+-- what the audit of a filled table answers: yes or no
+abbrev pub Audited : Type 0
+Audited = Result Bool Refusal
 
 -- every number below n passes a test: there is no lowest one that fails it
 unfoldable pub every_below : ℕ → (ℕ → Bool) → Bool
@@ -57,8 +60,8 @@ audit_right s t = count_right s t && (every_byte s (byte_marked s t) && every_by
 
 -- yes or no, or the refusal
 abbrev pub answer_audited : Bool → Check → Audited
-answer_audited right (Ok tt) = Answered right
-answer_audited right (Err x) = Refused x
+answer_audited right (Ok tt) = Ok right
+answer_audited right (Err x) = Err x
 
 -- the answer for every sheet and table
 unfoldable pub audited_of : List ℕ → List ℕ → Audited
@@ -73,8 +76,8 @@ pub record AuditReport : Type 0 where
 
 -- number, place and answer of each case
 abbrev pub reported_audit : Audited → AuditReport
-reported_audit (Answered b) = record { number = 0; place = 0; answer = b }
-reported_audit (Refused r) = record { number = number_of r; place = place_of r; answer = false }
+reported_audit (Ok b) = record { number = 0; place = 0; answer = b }
+reported_audit (Err r) = record { number = number_of r; place = place_of r; answer = false }
 
 -- what it reports for every sheet and table
 abbrev pub audit_report_of : List ℕ → List ℕ → AuditReport

@@ -17,9 +17,9 @@ use Rattle.judge.specs.StoredCount.{stored_count, filled_cells}
 use Rattle.judge.specs.Clearing.{reported_clear, Clears}
 use Rattle.judge.specs.Querying.{reported_query, Queries}
 use Rattle.judge.specs.Counting.{reported_count, ReadsCount}
-use Rattle.judge.specs.declared.Cleared.{Cleared}
-use Rattle.judge.specs.declared.Queried.{Queried}
-use Rattle.judge.specs.declared.Counted.{Counted}
+use Rattle.judge.specs.Clearing.{Cleared}
+use Rattle.judge.specs.Counting.{Counted}
+use Rattle.judge.specs.Querying.{Queried}
 
 -- "clearing 1 to 10, then 20": a call of `clear` on the sheet s and the buffer t answered r and left u
 pub record ClearNumbers (s t : List ℕ) (r : Cleared) (u : List ℕ) : Type 0 where

@@ -1,12 +1,15 @@
 -- Clearing: what it answers and what it leaves in the table's buffer, for every list of bytes as sheet and as buffer.
-use Rattle.std.specs.Prelude.{◌≡◌, ℕ, List, ◌++◌, length, drop, replicate, nat_le, Err, Ok}
+use Rattle.std.specs.Prelude.{◌≡◌, ℕ, List, ◌++◌, length, drop, replicate, nat_le, Err, Ok, Result}
 use Rattle.sheet.specs.Refusals.{number_of, place_of, require, and_then}
 use Rattle.sheet.specs.Reading.{sheet_check}
 use Rattle.sheet.specs.declared.Refusal.TheVariants.{TableShort}
 use Rattle.sheet.specs.Refusals.{Check}
 use Rattle.judge.specs.Cells.{table_bytes}
-use Rattle.judge.specs.declared.Cleared.{Cleared}
-use Rattle.judge.specs.declared.Cleared.TheVariants.{Done, Refused}
+use Rattle.sheet.specs.declared.Refusal.{Refusal}
+
+-- what clearing answers
+abbrev pub Cleared : Type 0
+Cleared = Result (Unit {0}) Refusal
 
 -- "clearing 1 to 10, then 20"
 unfoldable pub clear_check : List ℕ → List ℕ → Check
@@ -14,8 +17,8 @@ clear_check s t = and_then (sheet_check s) (require (nat_le (table_bytes s) (len
 
 -- what clearing answers for every sheet and buffer
 abbrev pub answer_cleared : Check → Cleared
-answer_cleared (Ok tt) = Done
-answer_cleared (Err r) = Refused r
+answer_cleared (Ok tt) = Ok tt
+answer_cleared (Err r) = Err r
 
 -- the answer for every sheet and buffer
 unfoldable pub cleared_of : List ℕ → List ℕ → Cleared
@@ -38,8 +41,8 @@ pub record ClearReport : Type 0 where
 
 -- number and place of each answer: "An accepted call gives number 0 and place 0."
 abbrev pub reported_clear : Cleared → ClearReport
-reported_clear Done = record { number = 0; place = 0 }
-reported_clear (Refused r) = record { number = number_of r; place = place_of r }
+reported_clear (Ok tt) = record { number = 0; place = 0 }
+reported_clear (Err r) = record { number = number_of r; place = place_of r }
 
 -- what clearing reports for every sheet and every buffer
 abbrev pub clear_report_of : List ℕ → List ℕ → ClearReport

@@ -1,17 +1,20 @@
 -- Document 02 (f): "The terminal's progress bar wants one place in the table to read." The reading of the count, for every list of bytes as
 -- sheet and as table. It takes the count as it stands, whatever the cells hold, and changes nothing.
-use Rattle.std.specs.Prelude.{◌≡◌, ℕ, List, Err, Ok}
+use Rattle.std.specs.Prelude.{◌≡◌, ℕ, List, Err, Ok, Result}
 use Rattle.sheet.specs.Refusals.{number_of, place_of}
 use Rattle.sheet.specs.Refusals.{Check}
 use Rattle.judge.specs.StoredCount.{stored_count}
 use Rattle.judge.specs.Clearing.{clear_check}
-use Rattle.judge.specs.declared.Counted.{Counted}
-use Rattle.judge.specs.declared.Counted.TheVariants.{Stored, Refused}
+use Rattle.sheet.specs.declared.Refusal.{Refusal}
+
+-- what reading the count of a table answers
+abbrev pub Counted : Type 0
+Counted = Result ℕ Refusal
 
 -- the stored count, or the refusal that clearing gives: 1 to 10, then 20
 abbrev pub answer_counted : ℕ → Check → Counted
-answer_counted n (Ok tt) = Stored n
-answer_counted n (Err x) = Refused x
+answer_counted n (Ok tt) = Ok n
+answer_counted n (Err x) = Err x
 
 -- the answer for every sheet and table
 unfoldable pub counted_of : List ℕ → List ℕ → Counted
@@ -25,8 +28,8 @@ pub record CountReport : Type 0 where
 
 -- number, place and count of each answer
 abbrev pub reported_count : Counted → CountReport
-reported_count (Stored n) = record { number = 0; place = 0; stored = n }
-reported_count (Refused r) = record { number = number_of r; place = place_of r; stored = 0 }
+reported_count (Ok n) = record { number = 0; place = 0; stored = n }
+reported_count (Err r) = record { number = number_of r; place = place_of r; stored = 0 }
 
 -- what it reports for every sheet and table
 abbrev pub count_report_of : List ℕ → List ℕ → CountReport

@@ -22,8 +22,8 @@ use Rattle.judge.specs.Counting.{reported_count, ReadsCount}
 use Rattle.judge.specs.OneSolution.{ComesTo, OneSolution}
 use Rattle.judge.specs.QueryCorrect.{cell_byte}
 use Rattle.judge.specs.Lists.{JustCleared, reports, table_after, Calls, Reported, SameAnswers, visits_of, judged_states}
-use Rattle.judge.specs.declared.Cleared.{Cleared}
-use Rattle.judge.specs.declared.Counted.{Counted}
+use Rattle.judge.specs.Clearing.{Cleared}
+use Rattle.judge.specs.Counting.{Counted}
 
 -- Document 02 (b): "a state that the plan doesn't have or from which a loop can be reached"
 abbrev pub RefusedState : List ℕ → ℕ → Type 0

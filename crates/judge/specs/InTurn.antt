@@ -1,7 +1,7 @@
 -- Queries in turn: the states of a list are queried on one table, one after the other up to the first whose verdict is false; what is
 -- refused looks at the whole list. The search of document 02 (m) rests on it. What the call answers and what it leaves in the table's
 -- buffer, for every list of bytes as sheet, as states and as buffer.
-use Rattle.std.specs.Prelude.{◌≡◌, ℕ, suc, Bool, true, false, List, [], ◌∷◌, map, length, nat_le, nat_lt, Err, Ok}
+use Rattle.std.specs.Prelude.{◌≡◌, ℕ, suc, Bool, true, false, List, [], ◌∷◌, map, length, nat_le, nat_lt, Err, Ok, Result}
 use Rattle.sheet.specs.Bytes.{pick}
 use Rattle.sheet.specs.Refusals.{number_of, place_of, require, and_then}
 use Rattle.sheet.specs.Contents.{plan_body, rule_body}
@@ -11,12 +11,17 @@ use Rattle.sheet.specs.declared.Refusal.TheVariants.{NoSuchState, Loop as LoopRe
 use Rattle.sheet.specs.Refusals.{Check}
 use Rattle.graph.specs.LoopTest.{all_pass, loop_free}
 use Rattle.rows.specs.Rows.{conjunction, joined, looked, value, need}
-use Rattle.rows.specs.Tables.{Result, out, visits, count, fills, filling}
+use Rattle.rows.specs.Tables.{Result as CellResult, out, visits, count, fills, filling}
 use Rattle.judge.specs.Cells.{Cell, cell, enough, position_of, cell_at, cell_bytes, table_bytes, cells_in}
 use Rattle.judge.specs.OneSolution.{changed_rows}
 use Rattle.judge.specs.Querying.{bytes_right, count_right, left_by}
-use Rattle.judge.specs.declared.InTurn.{InTurn}
-use Rattle.judge.specs.declared.InTurn.TheVariants.{Judged, WrongCount, Refused}
+use Rattle.judge.specs.declared.JudgedInTurn.{JudgedInTurn}
+use Rattle.judge.specs.declared.QueryError.{QueryError}
+use Rattle.judge.specs.declared.QueryError.TheVariants.{WrongCount, Refused}
+
+-- what queries in turn answer
+abbrev pub InTurn : Type 0
+InTurn = Result JudgedInTurn QueryError
 
 -- refusals as for the queries: "1 to 12, then 20 and 21", of which 11 and 12 look at every state of the list; 35 comes after these
 unfoldable pub in_turn_check : List ℕ → List ℕ → List ℕ → Check
@@ -44,7 +49,7 @@ abbrev pub needed_in_turn : List ℕ → List ℕ → List ℕ → List Cell
 needed_in_turn s states t = looked conjunction (solution_by s t) (need (changed_rows s t) enough) (root_cells states)
 
 -- whether all verdicts are true, how many cells are filled, and the cells then: the needed ones that were empty, each with its solution
-abbrev pub result_in_turn : List ℕ → List ℕ → List ℕ → Result
+abbrev pub result_in_turn : List ℕ → List ℕ → List ℕ → CellResult
 result_in_turn s states t =
     out (joined conjunction (solution_by s t) (root_cells states))
     (count (cell_bytes s) (fills (position_of (rule_body s)) (cells_in s t) (needed_in_turn s states t)))
@@ -57,9 +62,9 @@ passed_before v (state ∷ states) = pick (v state) (suc (passed_before v states
 
 -- how many states come before the first whose verdict is false, and how many cells were filled; or the refusal
 abbrev pub answer_in_turn : ℕ → ℕ → Check → Bool → InTurn
-answer_in_turn passed n (Ok tt) true = Judged passed n
-answer_in_turn passed n (Ok tt) false = WrongCount
-answer_in_turn passed n (Err x) right = Refused x
+answer_in_turn passed n (Ok tt) true = Ok (record { passed = passed; visits = n })
+answer_in_turn passed n (Ok tt) false = Err WrongCount
+answer_in_turn passed n (Err x) right = Err (Refused x)
 
 -- the answer for every sheet, list of states and table
 unfoldable pub in_turn_of : List ℕ → List ℕ → List ℕ → InTurn
@@ -79,9 +84,9 @@ pub record InTurnReport : Type 0 where
 
 -- the parts of each answer
 abbrev pub reported_in_turn : InTurn → InTurnReport
-reported_in_turn (Judged k n) = record { number = 0; place = 0; passed = k; visits = n }
-reported_in_turn WrongCount = record { number = 35; place = 0; passed = 0; visits = 0 }
-reported_in_turn (Refused r) = record { number = number_of r; place = place_of r; passed = 0; visits = 0 }
+reported_in_turn (Ok j) = record { number = 0; place = 0; passed = j.passed; visits = j.visits }
+reported_in_turn (Err WrongCount) = record { number = 35; place = 0; passed = 0; visits = 0 }
+reported_in_turn (Err (Refused r)) = record { number = number_of r; place = place_of r; passed = 0; visits = 0 }
 
 -- what is reported for every sheet, list of states and table
 abbrev pub in_turn_report_of : List ℕ → List ℕ → List ℕ → InTurnReport

@@ -15,7 +15,7 @@ use Rattle.graph.specs.Successors.{successors}
 use Rattle.judge.specs.Cells.{cell_bytes, table_bytes}
 use Rattle.judge.specs.StoredCount.{stored_count, filled_cells}
 use Rattle.judge.specs.InTurn.{reported_in_turn, QueriesInTurn}
-use Rattle.judge.specs.declared.InTurn.{InTurn}
+use Rattle.judge.specs.InTurn.{InTurn}
 
 -- a state of the list of which something holds
 abbrev pub SomeState : List ℕ → (ℕ → Type 0) → Type 0

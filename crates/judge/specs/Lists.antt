@@ -3,7 +3,7 @@ use Rattle.std.specs.Prelude.{◌≡◌, ℕ, ◌+◌, ◌↔◌, List, [], ◌�
 use Rattle.sheet.specs.Bytes.{pick}
 use Rattle.judge.specs.Clearing.{clear_report_of}
 use Rattle.judge.specs.Querying.{QueryReport, reported_query, queried_of, table_queried, Queries}
-use Rattle.judge.specs.declared.Queried.{Queried}
+use Rattle.judge.specs.Querying.{Queried}
 
 -- "The table is just cleared when clearing gave number 0 on it with that sheet": t is the buffer as it was lent to clearing
 abbrev pub JustCleared : List ℕ → List ℕ → Type 0

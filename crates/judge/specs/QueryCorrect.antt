@@ -8,7 +8,7 @@ use Rattle.judge.specs.Cells.{Cell, cell, position_of, cell_bytes, table_bytes, 
 use Rattle.judge.specs.StoredCount.{stored_count, filled_cells}
 use Rattle.judge.specs.Querying.{QueryReport, reported_query, Queries}
 use Rattle.judge.specs.OneSolution.{changed_rows, ComesTo, OneSolution}
-use Rattle.judge.specs.declared.Queried.{Queried}
+use Rattle.judge.specs.Querying.{Queried}
 
 -- the byte of a cell in a table of the sheet
 abbrev pub cell_byte : List ℕ → List ℕ → Cell → ℕ

@@ -1,19 +1,19 @@
 -- Document 01, "Sheets to try": P1 to P11, "shown together, as one conjunction over the rows and Table 1"; and a sheet for document 02 (b).
-use Rattle.std.specs.Prelude.{◌≡◌, ℕ, ◌≤◌, Bool, true, false, ◌↔◌, List, [], ◌∷◌, length, Ok}
+use Rattle.std.specs.Prelude.{◌≡◌, ℕ, ◌≤◌, Bool, true, false, ◌↔◌, List, [], ◌∷◌, length, Result, Ok}
 use Rattle.sheet.specs.Writing.{sheet_of}
 use Rattle.sheet.specs.Reading.{sheet_check}
+use Rattle.sheet.specs.declared.Refusal.{Refusal}
 use Rattle.calculus.specs.MeetingMask.{bit}
 use Rattle.calculus.specs.GuardCheck.{guarded_rule, reported_guard, Guards}
 use Rattle.calculus.specs.Verdict.{Verdict}
 use Rattle.calculus.specs.KeySheet.{key_sheet, K, looped}
-use Rattle.calculus.specs.declared.Guard.{Guard}
 use Rattle.judge.specs.Cells.{table_bytes}
 use Rattle.judge.specs.Clearing.{Clears}
 use Rattle.judge.specs.Querying.{QueryReport, reported_query, Queries}
 use Rattle.judge.specs.Lists.{Calls}
 use Rattle.judge.specs.Demand3.{ListCorrect}
-use Rattle.judge.specs.declared.Cleared.{Cleared}
-use Rattle.judge.specs.declared.Queried.{Queried}
+use Rattle.judge.specs.Clearing.{Cleared}
+use Rattle.judge.specs.Querying.{Queried}
 
 -- ---- the sheets
 
@@ -105,7 +105,7 @@ pub record SheetsToTry : Type 0 where
   pub p5 : WordMeans K 3
   -- "P6: K is unguarded.": by Definition 2, and every call of `guard` answers no
   pub p6 : guarded_rule K ≡ false
-  pub p6_call : (r : Guard) → Guards K r → reported_guard r ≡ record { number = 0; place = 0; answer = false }
+  pub p6_call : (r : Result Bool Refusal) → Guards K r → reported_guard r ≡ record { number = 0; place = 0; answer = false }
   -- "P7: least X.X: false, 2 visits.", at state 0
   pub p7 : Asked least_self 16 (0 ∷ []) (judged false 2 ∷ [])
   pub p7_table1 : Verdict least_self 0 → ⊥

@@ -5,13 +5,13 @@ ghost use Rattle.std.specs.Prelude.{Ok};
 ghost use Rattle.judge.specs.Auditing.{Audits};
 ghost use Rattle.judge.specs.Internal.Auditing.{AuditRequires, LongTableRequires};
 
+use crate::Scanned;
 use crate::consistency::table_passes;
 use crate::index::{MARKS_AT, NODES_AT, number};
 use crate::preparing::{prepare_rule, prepare_states};
 use crate::scanning::scan_states;
 use crate::table::{cell_bytes_prepared, number_at, table_bytes_for};
 use crate::widen::wide_u32;
-use crate::{Audited, Scanned};
 use graph::{INDEX_SIZE, Index, MOST_STATES, Starts};
 use sheet::Refusal;
 use sheet::plan::state_count;
@@ -25,19 +25,24 @@ fn audit_prepared(
     starts: &Starts,
     cells: usize,
     filled: usize,
-) -> Audited
+) -> Result<bool, Refusal>
     requires { AuditRequires sheet.now index.now table.now starts.now cells filled }
     ensures { Audits sheet.now table.now result }
 {
     let expected = wide_u32(number_at(table, cells));
     if expected != filled {
-        return Audited::Answered(false);
+        return Ok(false);
     }
-    Audited::Answered(table_passes(sheet, index, table, starts))
+    Ok(table_passes(sheet, index, table, starts))
 }
 
 // The audit of a table that is long enough: refusals 21 and 12 first.
-fn audit_states(sheet: &[u8], index: &mut Index, table: &[u8], cells: usize) -> Audited
+fn audit_states(
+    sheet: &[u8],
+    index: &mut Index,
+    table: &[u8],
+    cells: usize,
+) -> Result<bool, Refusal>
     requires { LongTableRequires sheet.now index.old table.now cells }
     ensures { Audits sheet.now table.now result }
 {
@@ -46,10 +51,10 @@ fn audit_states(sheet: &[u8], index: &mut Index, table: &[u8], cells: usize) -> 
     let mut starts = [0u8; MOST_STATES];
     let scanned = scan_states(&table[..cells], states, width, &mut starts);
     match scanned {
-        Scanned::ByteOver => Audited::Refused(Refusal::TableByte),
+        Scanned::ByteOver => Err(Refusal::TableByte),
         Scanned::Filled(filled) => {
             if !prepare_states(sheet, index, &starts) {
-                return Audited::Refused(Refusal::Loop);
+                return Err(Refusal::Loop);
             }
             audit_prepared(sheet, index, table, &starts, cells, filled)
         }
@@ -57,7 +62,7 @@ fn audit_states(sheet: &[u8], index: &mut Index, table: &[u8], cells: usize) -> 
 }
 
 // The audit of an accepted sheet: refusal 20 first.
-fn audit_accepted(sheet: &[u8], table: &[u8]) -> Audited
+fn audit_accepted(sheet: &[u8], table: &[u8]) -> Result<bool, Refusal>
     requires { sheet_check sheet.now ≡ Ok tt }
     ensures { Audits sheet.now table.now result }
 {
@@ -65,18 +70,15 @@ fn audit_accepted(sheet: &[u8], table: &[u8]) -> Audited
     prepare_rule(sheet, &mut index);
     let cells = cell_bytes_prepared(sheet, &index);
     if table.len() < table_bytes_for(cells) {
-        return Audited::Refused(Refusal::TableShort);
+        return Err(Refusal::TableShort);
     }
     audit_states(sheet, &mut index, table, cells)
 }
 
 // "Say yes exactly when the stored count is right", and each filled cell has a mark that its node may have and follows from filled cells of its row.
-pub fn audit(sheet: &[u8], table: &[u8]) -> Audited
+pub fn audit(sheet: &[u8], table: &[u8]) -> Result<bool, Refusal>
     ensures { Audits sheet.now table.now result }
 {
-    let checked = check(sheet);
-    match checked {
-        Err(x) => Audited::Refused(x),
-        Ok(()) => audit_accepted(sheet, table),
-    }
+    check(sheet)?;
+    audit_accepted(sheet, table)
 }

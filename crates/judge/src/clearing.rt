@@ -1,26 +1,20 @@
 // Clearing: the table of a sheet is made empty.
 ghost use Rattle.judge.specs.Clearing.{Clears};
 
-use crate::Cleared;
 use crate::table::{cell_bytes, table_bytes_for, zero};
 use sheet::Refusal;
 use sheet::reader::check;
 
 // "Clearing sets them to 0; it doesn't look for loops.": the cells, and the count after them.
-pub fn clear(sheet: &[u8], table: &mut [u8]) -> Cleared
+pub fn clear(sheet: &[u8], table: &mut [u8]) -> Result<(), Refusal>
     ensures { Clears sheet.now table.old result table.new }
 {
-    let checked = check(sheet);
-    match checked {
-        Err(x) => Cleared::Refused(x),
-        Ok(()) => {
-            let cells = cell_bytes(sheet);
-            let size = table_bytes_for(cells);
-            if table.len() < size {
-                return Cleared::Refused(Refusal::TableShort);
-            }
-            zero(table, size);
-            Cleared::Done
-        }
+    check(sheet)?;
+    let cells = cell_bytes(sheet);
+    let size = table_bytes_for(cells);
+    if table.len() < size {
+        return Err(Refusal::TableShort);
     }
+    zero(table, size);
+    Ok(())
 }

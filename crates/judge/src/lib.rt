@@ -17,10 +17,6 @@ pub mod turns;
 mod widen;
 
 ghost use Rattle.std.specs.Prelude.{◌≡◌};
-ghost use Rattle.judge.specs.Querying.{reported_query};
-ghost use Rattle.judge.specs.InTurn.{reported_in_turn};
-ghost use Rattle.judge.specs.Counting.{reported_count};
-ghost use Rattle.judge.specs.Auditing.{reported_audit};
 
 use graph::MOST_STATES;
 use sheet::{Numbered, Refusal};
@@ -35,207 +31,55 @@ const MOST_BINDERS: usize = 6;
 
 pub const LARGEST_TABLE: usize = MOST_STATES * MOST_NODES * (MOST_BINDERS + 1) + COUNT_BYTES;
 
-// What clearing answers.
-#[derive(Clone, Copy)]
-pub enum Cleared {
-    Done,
-    Refused(Refusal),
+// What a query gives: the verdict, and how many cells it filled.
+#[derive(Clone, Copy, Debug, PartialEq, Eq)]
+pub struct Judged {
+    pub verdict: bool,
+    pub visits: usize,
 }
 
-// What a query answers. The count is wrong where it differs from the number of filled cells.
+// What queries in turn give: how many states come before the first whose verdict is false, and how many cells they filled.
+#[derive(Clone, Copy, Debug, PartialEq, Eq)]
+pub struct JudgedInTurn {
+    pub passed: usize,
+    pub visits: usize,
+}
+
+// Why a query turns its input down. The count is wrong where it differs from the number of filled cells.
 #[derive(Clone, Copy)]
-pub enum Queried {
-    Judged { verdict: bool, visits: usize },
+pub enum QueryError {
     WrongCount,
     Refused(Refusal),
 }
 
-impl Queried {
-    // Its number: 0, 35 for a wrong count, or that of the refusal.
-    pub fn number(self) -> u8
-        ensures { result ≡ (reported_query self).number }
-    {
-        match self {
-            Queried::Judged {
-                verdict: _,
-                visits: _,
-            } => 0,
-            Queried::WrongCount => 35,
-            Queried::Refused(x) => x.number(),
-        }
-    }
+impl From<Refusal> for QueryError {
+    ghost use Rattle.judge.specs.declared.QueryError.TheVariants.{Refused};
 
-    // The place of the refusal, or 0.
-    pub fn place(self) -> u16
-        ensures { result ≡ (reported_query self).place }
-    {
-        match self {
-            Queried::Judged {
-                verdict: _,
-                visits: _,
-            } => 0,
-            Queried::WrongCount => 0,
-            Queried::Refused(x) => x.place(),
-        }
-    }
+    ghost from_gives = { λ x e. e ≡ Refused x };
 
-    // The verdict, false on a refusal.
-    pub fn verdict(self) -> bool
-        ensures { result ≡ (reported_query self).verdict }
-    {
-        match self {
-            Queried::Judged { verdict, visits: _ } => verdict,
-            Queried::WrongCount => false,
-            Queried::Refused(_) => false,
-        }
-    }
-
-    // The visits, 0 on a refusal.
-    pub fn visits(self) -> usize
-        ensures { result ≡ (reported_query self).visits }
-    {
-        match self {
-            Queried::Judged { verdict: _, visits } => visits,
-            Queried::WrongCount => 0,
-            Queried::Refused(_) => 0,
-        }
+    fn from(x: Refusal) -> QueryError {
+        QueryError::Refused(x)
     }
 }
 
-// What queries in turn answer: how many states come before the first whose verdict is false, and the visits.
-#[derive(Clone, Copy)]
-pub enum InTurn {
-    Judged { passed: usize, visits: usize },
-    WrongCount,
-    Refused(Refusal),
-}
+impl Numbered for QueryError {
+    ghost use Rattle.judge.specs.Querying.{error_number, error_place};
 
-impl InTurn {
-    // Its number: 0, 35 for a wrong count, or that of the refusal.
-    pub fn number(self) -> u8
-        ensures { result ≡ (reported_in_turn self).number }
-    {
+    ghost number = { error_number };
+
+    ghost place = { error_place };
+
+    fn number(&self) -> u8 {
         match self {
-            InTurn::Judged {
-                passed: _,
-                visits: _,
-            } => 0,
-            InTurn::WrongCount => 35,
-            InTurn::Refused(x) => x.number(),
+            QueryError::WrongCount => 35,
+            QueryError::Refused(x) => x.number(),
         }
     }
 
-    // The place of the refusal, or 0.
-    pub fn place(self) -> u16
-        ensures { result ≡ (reported_in_turn self).place }
-    {
+    fn place(&self) -> u16 {
         match self {
-            InTurn::Judged {
-                passed: _,
-                visits: _,
-            } => 0,
-            InTurn::WrongCount => 0,
-            InTurn::Refused(x) => x.place(),
-        }
-    }
-
-    // How many states passed, 0 on a refusal.
-    pub fn passed(self) -> usize
-        ensures { result ≡ (reported_in_turn self).passed }
-    {
-        match self {
-            InTurn::Judged { passed, visits: _ } => passed,
-            InTurn::WrongCount => 0,
-            InTurn::Refused(_) => 0,
-        }
-    }
-
-    // The visits, 0 on a refusal.
-    pub fn visits(self) -> usize
-        ensures { result ≡ (reported_in_turn self).visits }
-    {
-        match self {
-            InTurn::Judged { passed: _, visits } => visits,
-            InTurn::WrongCount => 0,
-            InTurn::Refused(_) => 0,
-        }
-    }
-}
-
-// What reading the count of a table answers.
-#[derive(Clone, Copy)]
-pub enum Counted {
-    Stored(u32),
-    Refused(Refusal),
-}
-
-impl Counted {
-    // Its number: 0 or that of the refusal.
-    pub fn number(self) -> u8
-        ensures { result ≡ (reported_count self).number }
-    {
-        match self {
-            Counted::Stored(_) => 0,
-            Counted::Refused(x) => x.number(),
-        }
-    }
-
-    // The place of the refusal, or 0.
-    pub fn place(self) -> u16
-        ensures { result ≡ (reported_count self).place }
-    {
-        match self {
-            Counted::Stored(_) => 0,
-            Counted::Refused(x) => x.place(),
-        }
-    }
-
-    // The count, 0 on a refusal.
-    pub fn stored(self) -> u32
-        ensures { result ≡ (reported_count self).stored }
-    {
-        match self {
-            Counted::Stored(n) => n,
-            Counted::Refused(_) => 0,
-        }
-    }
-}
-
-// What the audit of a filled table answers: yes or no.
-#[derive(Clone, Copy)]
-pub enum Audited {
-    Answered(bool),
-    Refused(Refusal),
-}
-
-impl Audited {
-    // Its number: 0 or that of the refusal.
-    pub fn number(self) -> u8
-        ensures { result ≡ (reported_audit self).number }
-    {
-        match self {
-            Audited::Answered(_) => 0,
-            Audited::Refused(x) => x.number(),
-        }
-    }
-
-    // The place of the refusal, or 0.
-    pub fn place(self) -> u16
-        ensures { result ≡ (reported_audit self).place }
-    {
-        let Audited::Refused(x) = self else {
-            return 0;
-        };
-        x.place()
-    }
-
-    // Yes or no; no on a refusal.
-    pub fn answer(self) -> bool
-        ensures { result ≡ (reported_audit self).answer }
-    {
-        match self {
-            Audited::Answered(b) => b,
-            Audited::Refused(_) => false,
+            QueryError::WrongCount => 0,
+            QueryError::Refused(x) => x.place(),
         }
     }
 }

@@ -12,7 +12,7 @@ use crate::preparing::prepare;
 use crate::scanning::scan;
 use crate::table::{cell_bytes_prepared, number_at, put_number, table_bytes_for};
 use crate::widen::wide_u32;
-use crate::{Queried, Scanned};
+use crate::{Judged, QueryError, Scanned};
 use graph::{INDEX_SIZE, Index};
 use sheet::plan::state_count;
 use sheet::reader::{check, plan_body};
@@ -26,7 +26,7 @@ fn judge_table(
     table: &mut [u8],
     cells: usize,
     stored: u32,
-) -> Queried
+) -> Result<Judged, QueryError>
     requires { TableRequires sheet.now index.now state.0 table.old cells stored }
     ensures { Queries sheet.now state.0 table.old result table.new }
 {
@@ -34,29 +34,34 @@ fn judge_table(
     let visits = visits_of(w);
     let count = stored + visits as u32;
     put_number(table, cells, count);
-    Queried::Judged {
+    Ok(Judged {
         verdict: is_true(w),
         visits,
-    }
+    })
 }
 
 // The query of an accepted sheet, with all prepared: refusals 20, 21 and 35.
-fn judge_prepared(sheet: &[u8], index: &Index, state: State, table: &mut [u8]) -> Queried
+fn judge_prepared(
+    sheet: &[u8],
+    index: &Index,
+    state: State,
+    table: &mut [u8],
+) -> Result<Judged, QueryError>
     requires { QueryRequires sheet.now index.now state.0 }
     ensures { Queries sheet.now state.0 table.old result table.new }
 {
     let cells = cell_bytes_prepared(sheet, index);
     if table.len() < table_bytes_for(cells) {
-        return Queried::Refused(Refusal::TableShort);
+        return Err(QueryError::Refused(Refusal::TableShort));
     }
     let scanned = scan(&table[..cells]);
     match scanned {
-        Scanned::ByteOver => Queried::Refused(Refusal::TableByte),
+        Scanned::ByteOver => Err(QueryError::Refused(Refusal::TableByte)),
         Scanned::Filled(filled) => {
             let stored = number_at(table, cells);
             let expected = wide_u32(stored);
             if expected != filled {
-                return Queried::WrongCount;
+                return Err(QueryError::WrongCount);
             }
             judge_table(sheet, index, state, table, cells, stored)
         }
@@ -64,28 +69,25 @@ fn judge_prepared(sheet: &[u8], index: &Index, state: State, table: &mut [u8]) -
 }
 
 // The query of an accepted sheet: refusals 11 and 12 first.
-fn judge_accepted(sheet: &[u8], state: State, table: &mut [u8]) -> Queried
+fn judge_accepted(sheet: &[u8], state: State, table: &mut [u8]) -> Result<Judged, QueryError>
     requires { sheet_check sheet.now ≡ Ok tt }
     ensures { Queries sheet.now state.0 table.old result table.new }
 {
     if state_count(plan_body(sheet)) <= state.0 {
-        return Queried::Refused(Refusal::NoSuchState);
+        return Err(QueryError::Refused(Refusal::NoSuchState));
     }
     let mut index = [0; INDEX_SIZE];
     if !prepare(sheet, &mut index, state) {
-        return Queried::Refused(Refusal::Loop);
+        return Err(QueryError::Refused(Refusal::Loop));
     }
     judge_prepared(sheet, &index, state, table)
 }
 
 // "A query takes a sheet, a state s and a table. It gives the solution at (0, 0, s)", fills the needed cells that were empty, reports how
 // many, and adds them to the count.
-pub fn query(sheet: &[u8], state: State, table: &mut [u8]) -> Queried
+pub fn query(sheet: &[u8], state: State, table: &mut [u8]) -> Result<Judged, QueryError>
     ensures { Queries sheet.now state.0 table.old result table.new }
 {
-    let checked = check(sheet);
-    match checked {
-        Err(x) => Queried::Refused(x),
-        Ok(()) => judge_accepted(sheet, state, table),
-    }
+    check(sheet)?;
+    judge_accepted(sheet, state, table)
 }

@@ -11,7 +11,7 @@ use crate::preparing::{prepare_rule, prepare_states};
 use crate::scanning::scan;
 use crate::table::{cell_bytes_prepared, number_at, put_number, table_bytes_for};
 use crate::widen::{wide, wide_u32};
-use crate::{InTurn, Scanned, Walked};
+use crate::{JudgedInTurn, QueryError, Scanned, Walked};
 use graph::{INDEX_SIZE, Index, MOST_STATES, Starts};
 use sheet::plan::state_count;
 use sheet::reader::{check, plan_body};
@@ -60,7 +60,7 @@ fn walk_table(
     table: &mut [u8],
     cells: usize,
     stored: u32,
-) -> InTurn
+) -> Result<JudgedInTurn, QueryError>
     requires { TurnsRequires sheet.now index.now states.now table.old cells stored }
     ensures { QueriesInTurn sheet.now states.now table.old result table.new }
 {
@@ -68,29 +68,34 @@ fn walk_table(
     let visits = walked.visits;
     let count = stored + visits as u32;
     put_number(table, cells, count);
-    InTurn::Judged {
+    Ok(JudgedInTurn {
         passed: walked.passed,
         visits,
-    }
+    })
 }
 
 // The queries of an accepted sheet, with all prepared: refusals 20, 21 and 35.
-fn walk_prepared(sheet: &[u8], index: &Index, states: &[u8], table: &mut [u8]) -> InTurn
+fn walk_prepared(
+    sheet: &[u8],
+    index: &Index,
+    states: &[u8],
+    table: &mut [u8],
+) -> Result<JudgedInTurn, QueryError>
     requires { EachPrepared sheet.now index.now states.now }
     ensures { QueriesInTurn sheet.now states.now table.old result table.new }
 {
     let cells = cell_bytes_prepared(sheet, index);
     if table.len() < table_bytes_for(cells) {
-        return InTurn::Refused(Refusal::TableShort);
+        return Err(QueryError::Refused(Refusal::TableShort));
     }
     let scanned = scan(&table[..cells]);
     match scanned {
-        Scanned::ByteOver => InTurn::Refused(Refusal::TableByte),
+        Scanned::ByteOver => Err(QueryError::Refused(Refusal::TableByte)),
         Scanned::Filled(filled) => {
             let stored = number_at(table, cells);
             let expected = wide_u32(stored);
             if expected != filled {
-                return InTurn::WrongCount;
+                return Err(QueryError::WrongCount);
             }
             walk_table(sheet, index, states, table, cells, stored)
         }
@@ -98,30 +103,31 @@ fn walk_prepared(sheet: &[u8], index: &Index, states: &[u8], table: &mut [u8]) -
 }
 
 // The queries of an accepted sheet: refusals 11 and 12 first.
-fn walk_accepted(sheet: &[u8], states: &[u8], table: &mut [u8]) -> InTurn
+fn walk_accepted(sheet: &[u8], states: &[u8], table: &mut [u8]) -> Result<JudgedInTurn, QueryError>
     requires { sheet_check sheet.now ≡ Ok tt }
     ensures { QueriesInTurn sheet.now states.now table.old result table.new }
 {
     let mut starts = [0u8; MOST_STATES];
     if !mark_states(states, state_count(plan_body(sheet)), &mut starts) {
-        return InTurn::Refused(Refusal::NoSuchState);
+        return Err(QueryError::Refused(Refusal::NoSuchState));
     }
     let mut index = [0; INDEX_SIZE];
     prepare_rule(sheet, &mut index);
     if !prepare_states(sheet, &mut index, &starts) {
-        return InTurn::Refused(Refusal::Loop);
+        return Err(QueryError::Refused(Refusal::Loop));
     }
     walk_prepared(sheet, &index, states, table)
 }
 
 // Queries the states of a list, in order up to the first whose verdict is false, with the sheet read, the plan searched and the table
 // scanned once. Refusals 11 and 12 look at every state of the list, also behind that one.
-pub fn query_in_turn(sheet: &[u8], states: &[u8], table: &mut [u8]) -> InTurn
+pub fn query_in_turn(
+    sheet: &[u8],
+    states: &[u8],
+    table: &mut [u8],
+) -> Result<JudgedInTurn, QueryError>
     ensures { QueriesInTurn sheet.now states.now table.old result table.new }
 {
-    let checked = check(sheet);
-    match checked {
-        Err(x) => InTurn::Refused(x),
-        Ok(()) => walk_accepted(sheet, states, table),
-    }
+    check(sheet)?;
+    walk_accepted(sheet, states, table)
 }

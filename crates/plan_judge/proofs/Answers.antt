@@ -31,8 +31,9 @@ use Rattle.judge.specs.Cells.{Cell, cell, written_rows, enough, position_of, cel
 use Rattle.judge.specs.Querying.{query_check, count_right, result_of, answer_queried, queried_of, table_queried, reported_query}
 use Rattle.judge.specs.QueryCorrect.{QueryCorrect}
 use Rattle.judge.specs.Lists.{reports}
-use Rattle.judge.specs.declared.Queried.{Queried}
-use Rattle.judge.specs.declared.Queried.TheVariants.{Judged, Refused}
+use Rattle.std.specs.Prelude.{Ok, Err}
+use Rattle.judge.specs.Querying.{Queried}
+use Rattle.judge.specs.declared.QueryError.TheVariants.{Refused}
 use Rattle.judge.proofs.Cells.ValidCells.{Valid, root_valid}
 use Rattle.judge.proofs.Cells.CellLayout.{solvable}
 use Rattle.judge.proofs.Cells.CountLayout.{cells_byte, cells_length}
@@ -43,7 +44,7 @@ use Rattle.judge.proofs.Statements.QueryCorrect.{queries_correct}
 use Rattle.plan_judge.specs.Program.{cleared_table, program_of, RightAnswer, ProgramCorrect, ProgramRefusals}
 
 -- a sheet that is not accepted, with any table
-refuses : (s u : List ℕ) (x : Refusal) → sheet_check s ≡ Err x → queried_of s 0 u ≡ Refused x
+refuses : (s u : List ℕ) (x : Refusal) → sheet_check s ≡ Err x → queried_of s 0 u ≡ Err (Refused x)
 unfolding queried_of query_check
 refuses s u x e = rw e
 
@@ -60,7 +61,7 @@ module _ (s : List ℕ) (accepted : sheet_check s ≡ Ok tt) where
 
   -- the answer, by whether no loop can be reached
   abbrev answer_if : Bool → Queried
-  answer_if free = pick free (Judged (value (written_rows s) enough (cell 0 0 0)) needed_cells) (Refused Loop)
+  answer_if free = pick free (Ok (record { verdict = value (written_rows s) enough (cell 0 0 0); visits = needed_cells })) (Err (Refused Loop))
 
   -- a table of zeros
   module _ (u : List ℕ) (long : table_bytes s ≤ length u) (zeros : (i : ℕ) → i < table_bytes s → byte_at u i ≡ 0) where
@@ -80,7 +81,7 @@ module _ (s : List ℕ) (accepted : sheet_check s ≡ Ok tt) where
     unfolding queried_of query
     judges e =
         ap₂ (answer_queried (result_of s 0 u)) (query_passes s accepted u fine 0 (rw (lt-ltb 0 (state_count (plan_body s)) starts, e))) (count_passes s accepted u fine)
-        ∙ (λ i. Judged (cleared_value (solvable bodies) held fits clear (cell 0 0 0) root i) (visited i))
+        ∙ (λ i. Ok (record { verdict = cleared_value (solvable bodies) held fits clear (cell 0 0 0) root i; visits = visited i }))
       where
         root : Valid (plan_body s) (actions_body s) (rule_body s) (cell 0 0 0)
         root = root_valid bodies.rule_kept 0 starts e
@@ -105,7 +106,7 @@ module _ (s : List ℕ) (accepted : sheet_check s ≡ Ok tt) where
 
 -- ---- on the table that the program's definition names
 
-pub program_refuses : (s : List ℕ) (x : Refusal) → sheet_check s ≡ Err x → program_of s ≡ Refused x
+pub program_refuses : (s : List ℕ) (x : Refusal) → sheet_check s ≡ Err x → program_of s ≡ Err (Refused x)
 unfolding program_of
 program_refuses s x e = refuses s (cleared_table s) x e
 

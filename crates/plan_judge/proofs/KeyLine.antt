@@ -15,18 +15,19 @@ use Rattle.judge.specs.Querying.{QueryReport, queried_of, reported_query}
 use Rattle.judge.specs.Clearing.{table_cleared}
 use Rattle.judge.specs.Lists.{none, call}
 use Rattle.judge.specs.SheetsToTry.{judged}
-use Rattle.judge.specs.declared.Queried.{Queried}
-use Rattle.judge.specs.declared.Queried.TheVariants.{Judged, WrongCount, Refused}
+use Rattle.std.specs.Prelude.{Ok, Err}
+use Rattle.judge.specs.Querying.{Queried}
+use Rattle.judge.specs.declared.QueryError.TheVariants.{WrongCount, Refused}
 use Rattle.judge.proofs.Lists.JustCleared.{cleared_exact}
 use Rattle.judge.proofs.Statements.SheetsToTry.{sheets_to_try}
 use Rattle.plan_judge.specs.Line.{line_of}
 use Rattle.plan_judge.specs.Program.{cleared_table, program_of, KeyLine}
 
 -- an answer by what it reports
-judged_answer : (q : Queried) (v : Bool) (n : ℕ) → reported_query q ≡ judged v n → q ≡ Judged v n
-judged_answer (Judged w m) v n e = λ i. Judged (e i).verdict (e i).visits
-judged_answer WrongCount v n e = absurd (omega (arith, ap (λ (r : QueryReport). r.number) e))
-judged_answer (Refused x) v n e = absurd (omega (arith, refused_number x, ap (λ (r : QueryReport). r.number) e))
+judged_answer : (q : Queried) (v : Bool) (n : ℕ) → reported_query q ≡ judged v n → q ≡ Ok (record { verdict = v; visits = n })
+judged_answer (Ok j) v n e = λ i. Judged (e i).verdict (e i).visits
+judged_answer (Err WrongCount) v n e = absurd (omega (arith, ap (λ (r : QueryReport). r.number) e))
+judged_answer (Err (Refused x)) v n e = absurd (omega (arith, refused_number x, ap (λ (r : QueryReport). r.number) e))
 
 first : QueryReport → List QueryReport → QueryReport
 first q [] = q
@@ -38,7 +39,7 @@ accepted = sheets_to_try.p1.accepted
 table_length : length (cleared_table K) ≡ table_bytes K
 table_length = length-replicate {A = ℕ} (table_bytes K) 0
 
-key_answer : program_of K ≡ Judged true 17
+key_answer : program_of K ≡ Ok (record { verdict = true; visits = 17 })
 unfolding program_of first
 key_answer =
     judged_answer (queried_of K 0 (cleared_table K)) true 17

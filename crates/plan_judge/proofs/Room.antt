@@ -14,7 +14,7 @@ use Rattle.judge.specs.Clearing.{clear_check, cleared_of, table_cleared}
 use Rattle.judge.specs.LargestTable.{largest_table}
 use Rattle.judge.specs.Querying.{queried_of}
 use Rattle.judge.specs.declared.Cleared.TheVariants as cleared
-use Rattle.judge.specs.declared.Queried.{Queried}
+use Rattle.judge.specs.Querying.{Queried}
 use Rattle.judge.specs.declared.Queried.TheVariants as queried
 use Rattle.judge.proofs.Lists.JustCleared.{cleared_length, cleared_below}
 use Rattle.judge.proofs.Statements.LargestTable.{every_table_fits}

@@ -5,9 +5,9 @@ use Rattle.text.specs.Placing.{Puts}
 use Rattle.judge.specs.Clearing.{cleared_of, table_cleared}
 use Rattle.judge.specs.LargestTable.{largest_table}
 use Rattle.judge.specs.Querying.{queried_of}
-use Rattle.judge.specs.declared.Cleared.{Cleared}
+use Rattle.judge.specs.Clearing.{Cleared}
+use Rattle.judge.specs.Querying.{Queried}
 use Rattle.judge.specs.declared.Cleared.TheVariants as cleared
-use Rattle.judge.specs.declared.Queried.{Queried}
 use Rattle.judge.specs.declared.Queried.TheVariants as queried
 use Rattle.plan_judge.specs.Program.{program_of, program_line}
 

@@ -4,14 +4,15 @@ use Rattle.text.specs.Decimal.{decimal_of}
 use Rattle.text.specs.RefusalLine.{refusal_line, refusal_length}
 use Rattle.text.specs.Words.{space, line_feed, bool_text}
 use Rattle.judge.specs.Querying.{reported_query}
-use Rattle.judge.specs.declared.Queried.{Queried}
-use Rattle.judge.specs.declared.Queried.TheVariants.{Judged, WrongCount, Refused}
+use Rattle.std.specs.Prelude.{Ok, Err}
+use Rattle.judge.specs.Querying.{Queried}
+use Rattle.judge.specs.declared.QueryError.TheVariants.{WrongCount, Refused}
 
 -- the line of an answer
 unfoldable pub line_of : Queried → List ℕ
-line_of (Judged v n) = bool_text v ++ space ++ decimal_of n ++ line_feed
-line_of WrongCount = refusal_line (reported_query WrongCount).number (reported_query WrongCount).place
-line_of (Refused r) = refusal_line (reported_query (Refused r)).number (reported_query (Refused r)).place
+line_of (Ok j) = bool_text j.verdict ++ space ++ decimal_of j.visits ++ line_feed
+line_of (Err WrongCount) = refusal_line (reported_query (Err WrongCount)).number (reported_query (Err WrongCount)).place
+line_of (Err (Refused r)) = refusal_line (reported_query (Err (Refused r))).number (reported_query (Err (Refused r))).place
 
 -- room for the line of a refusal
 abbrev pub line_length : ℕ

@@ -12,8 +12,9 @@ use Rattle.graph.specs.Successors.{successors}
 use Rattle.judge.specs.Cells.{table_bytes}
 use Rattle.judge.specs.Querying.{queried_of, reported_query}
 use Rattle.judge.specs.QueryCorrect.{QueryCorrect}
-use Rattle.judge.specs.declared.Queried.{Queried}
-use Rattle.judge.specs.declared.Queried.TheVariants.{Judged, Refused}
+use Rattle.std.specs.Prelude.{Ok, Err}
+use Rattle.judge.specs.Querying.{Queried}
+use Rattle.judge.specs.declared.QueryError.TheVariants.{Refused}
 use Rattle.plan_judge.specs.Line.{line_of}
 
 -- "clears": the table of a sheet, just cleared, with no byte after it
@@ -31,16 +32,16 @@ program_line s = line_of (program_of s)
 -- the right answer to a sheet: for every list of bytes one of three cases, which exclude one another
 pub data RightAnswer (s : List ℕ) : Queried → Type 0 where
   -- "clearing 1 to 10"
-  unreadable : {x : Refusal} → sheet_check s ≡ Err x → RightAnswer s (Refused x)
+  unreadable : {x : Refusal} → sheet_check s ≡ Err x → RightAnswer s (Err (Refused x))
   -- document 02 (b): "12 exactly when a loop can be reached from the queried state"
-  loops : sheet_check s ≡ Ok tt → LoopReachable (successors (plan_body s)) 0 → RightAnswer s (Refused Loop)
+  loops : sheet_check s ≡ Ok tt → LoopReachable (successors (plan_body s)) 0 → RightAnswer s (Err (Refused Loop))
   -- "Table 1's verdict at s is true exactly when s is in the meaning of the rule"; "fills exactly the needed cells that were empty .. and
   -- reports how many it filled as its visits"
   judged :
       {v : Bool} {n : ℕ} {left : List ℕ} → sheet_check s ≡ Ok tt → (LoopReachable (successors (plan_body s)) 0 → ⊥)
       → (v ≡ true) ↔ Verdict s 0
       → QueryCorrect s 0 (cleared_table s) (record { number = 0; place = 0; verdict = v; visits = n }) left
-      → RightAnswer s (Judged v n)
+      → RightAnswer s (Ok (record { verdict = v; visits = n }))
 
 -- the program is right about every list of bytes
 abbrev pub ProgramCorrect : Type 0

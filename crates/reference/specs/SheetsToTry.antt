@@ -1,13 +1,13 @@
 -- Document 01, "Sheets to try": what every call of `reference` reports on the sheets of P5 and P11. Shown by sheets_reported of
 -- proofs/Answers/Examples.antt.
-use Rattle.std.specs.Prelude.{ℕ, ◌≡◌, List}
+use Rattle.std.specs.Prelude.{ℕ, ◌≡◌, List, Result}
 use Rattle.calculus.specs.KeySheet.{K, looped}
 use Rattle.reference.specs.Reference.{reported_reference, References}
-use Rattle.reference.specs.declared.Reference.{Reference}
+use Rattle.sheet.specs.declared.Refusal.{Refusal}
 
 -- every call of `reference` on the sheet accepts it and gives the word
 abbrev pub Gives : List ℕ → ℕ → Type 0
-Gives s word = (r : Reference) → References s r → reported_reference r ≡ record { number = 0; place = 0; word = word }
+Gives s word = (r : Result ℕ Refusal) → References s r → reported_reference r ≡ record { number = 0; place = 0; word = word }
 
 -- P5 and P11
 pub record ReferenceOfSheets : Type 0 where

@@ -1,7 +1,6 @@
 // The public call: refusals 1 to 10, then 13, else the word of the rule's meaning.
 ghost use Rattle.reference.specs.Reference.{References};
 
-use crate::Reference;
 use crate::sets::{all, restart};
 use crate::table1::{evaluate, meetings};
 use sheet::plan::{action_count, state_count};
@@ -9,22 +8,17 @@ use sheet::reader::{actions_body, check, plan_body, rule_body};
 use sheet::{Node, Refusal};
 
 // Bit s is set exactly when state s is in the meaning of the rule.
-pub fn reference(sheet: &[u8]) -> Reference
+pub fn reference(sheet: &[u8]) -> Result<u64, Refusal>
     ensures { References sheet.now result }
 {
-    let checked = check(sheet);
-    match checked {
-        Err(x) => Reference::Refused(x),
-        Ok(()) => {
-            let plan = plan_body(sheet);
-            let states = state_count(plan);
-            if 64 < states {
-                return Reference::Refused(Refusal::TooManyStates);
-            }
-            let masks = meetings(actions_body(sheet), action_count(plan));
-            let mut context: [u64; 6] = [0; 6];
-            restart(rule_body(sheet), &mut context, Node(0), 8, all(states));
-            Reference::Word(evaluate(sheet, &masks, Node(0), &mut context))
-        }
+    check(sheet)?;
+    let plan = plan_body(sheet);
+    let states = state_count(plan);
+    if 64 < states {
+        return Err(Refusal::TooManyStates);
     }
+    let masks = meetings(actions_body(sheet), action_count(plan));
+    let mut context: [u64; 6] = [0; 6];
+    restart(rule_body(sheet), &mut context, Node(0), 8, all(states));
+    Ok(evaluate(sheet, &masks, Node(0), &mut context))
 }

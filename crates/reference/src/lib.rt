@@ -7,12 +7,3 @@
 pub mod judging;
 mod sets;
 mod table1;
-
-use sheet::Refusal;
-
-// What the reference judge answers: a bit for each state, or its refusal.
-#[derive(Clone, Copy)]
-pub enum Reference {
-    Word(u64),
-    Refused(Refusal),
-}

@@ -9,8 +9,8 @@ use Rattle.judge.specs.Querying.{QueryReport}
 use Rattle.judge.specs.Counting.{reported_count, ReadsCount}
 use Rattle.judge.specs.Lists.{JustCleared, Calls, visits_of}
 use Rattle.judge.specs.Demand3.{ListCorrect}
-use Rattle.judge.specs.declared.Cleared.{Cleared}
-use Rattle.judge.specs.declared.Counted.{Counted}
+use Rattle.judge.specs.Clearing.{Cleared}
+use Rattle.judge.specs.Counting.{Counted}
 use Rattle.report.specs.Text.{tally_of, text_of}
 use Rattle.report.specs.Reporting.{most_queries, least_output, report_text, reported_text, WritesReport}
 use Rattle.report.specs.declared.Report.{Report}

@@ -18,24 +18,13 @@ pub fn read_full<R: Read>(reader: &mut R, buf: &mut [u8]) -> Result<usize>
 {
     let mut done = 0;
     while done < buf.len() {
-        let n = read_at(reader, buf, done)?;
+        let n = reader.read(&mut buf[done..])?;
         if n == 0 {
-            return Ok(done);
+            break;
         }
         done += n;
     }
     Ok(done)
-}
-
-// One read, into buf from place `at` on.
-fn read_at<R: Read>(reader: &mut R, buf: &mut [u8], at: usize) -> Result<usize>
-    requires { at < length buf.old }
-    ensures front { take at buf.new ≡ take at buf.old }
-    ensures fits { IfOk result (λ n. at + n ≤ length buf.new) }
-    ensures bytes { IfOk result (λ n. Consumes (R.remaining reader.old) (R.remaining reader.new) (take n (drop at buf.new))) }
-    ensures end { IfOk result (λ n. n ≡ 0 → IsAtEnd (R.remaining reader.new)) }
-{
-    reader.read(&mut buf[at..])
 }
 
 #[cfg(test)]

@@ -1,13 +1,11 @@
--- Whether two texts are the same, and how a loop over both finds out.
-use Prim.Native.Nat.{ℕ, suc, ◌+◌, ◌<◌, ◌≤◌}
+-- Whether two texts are the same, and that `==` of slices finds out.
+use Prim.Native.Nat.{ℕ}
 use mathlib.Core.Path.{◌≡◌, refl, sym, ap, ap₂, ◌∙◌}
-use mathlib.Core.Bool.{Bool, true, false, ◌&&◌, and-false, false≢true}
+use mathlib.Core.Bool.{Bool, true, false, ◌&&◌, false≢true}
 use mathlib.Core.List.{List, [], ◌∷◌}
-use native.Mathlib.Numerals.{add-one}
 use lib.Dec.{eqb}
-use lib.ListN.{length, get_or, drop, drop_of_length-le}
-use lib.Seq.{drop-cons}
-use borrow.Author.Tests.{eq-eqb, ne_eqb, eqb-true}
+use borrow.Author.Tests.{eq-eqb, eqb-true}
+use Rattle.std.specs.Cmp.Lexicographic.{pointwise}
 use Rattle.text.specs.Comparing.{same_text, SameExactly}
 
 -- ---- same_text is equality
@@ -31,25 +29,11 @@ is_same (b ∷ w) = rw (eq-eqb b b refl) (is_same w)
 pub same_exactly : SameExactly
 same_exactly w v = (same_is w v, λ q. ap (same_text w) (sym q) ∙ is_same w)
 
--- ---- the loop
+-- ---- it is what `==` of slices computes
 
-pub other_length : (w v : List ℕ) → (length w ≡ length v → ⊥) → same_text w v ≡ false
+pub pointwise_same : (w v : List ℕ) → pointwise eqb w v ≡ same_text w v
 unfolding same_text
-other_length [] [] h = absurd (h refl)
-other_length [] (c ∷ v) h = refl
-other_length (b ∷ w) [] h = refl
-other_length (b ∷ w) (c ∷ v) h =
-    rw (other_length w v (λ q. h (ap suc q))) (and-false (eqb b c))
-
-module _ (w v : List ℕ) (i : ℕ) (l : i < length w) (m : i < length v) where
-  pub other_byte_lem : (get_or w i 0 ≡ get_or v i 0 → ⊥) → same_text (drop i w) (drop i v) ≡ false
-  unfolding same_text
-  other_byte_lem h = rw (drop-cons w i 0 l, drop-cons v i 0 m, ne_eqb (get_or w i 0) (get_or v i 0) h) refl
-
-  pub same_byte : get_or w i 0 ≡ get_or v i 0 → same_text (drop i w) (drop i v) ≡ same_text (drop (i + 1) w) (drop (i + 1) v)
-  unfolding same_text
-  same_byte h = rw (add-one i, drop-cons w i 0 l, drop-cons v i 0 m, eq-eqb (get_or w i 0) (get_or v i 0) h) refl
-
-pub both_ended : (w v : List ℕ) (i : ℕ) → length w ≤ i → length v ≤ i → same_text (drop i w) (drop i v) ≡ true
-unfolding same_text
-both_ended w v i l m = rw (drop_of_length-le w l, drop_of_length-le v m) refl
+pointwise_same [] [] = refl
+pointwise_same [] (c ∷ v) = refl
+pointwise_same (b ∷ w) [] = refl
+pointwise_same (b ∷ w) (c ∷ v) = ap (λ (p : Bool). eqb b c && p) (pointwise_same w v)

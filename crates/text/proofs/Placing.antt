@@ -1,6 +1,6 @@
 -- Texts put into a buffer, one after another.
 use Prim.Native.Nat.{ℕ, ◌+◌, ◌-◌, ◌≤◌, ◌<◌}
-use mathlib.Core.Path.{◌≡◌, sym, ap, ap₂, subst, ◌∙◌}
+use mathlib.Core.Path.{◌≡◌, sym, ap, ap₂, subst, subst₂, ◌∙◌}
 use mathlib.Core.List.{List, ◌++◌, append_assoc}
 use native.Mathlib.Omega.{arith}
 use native.Mathlib.Decide.{dec_le}
@@ -88,6 +88,12 @@ pub record Placed (at : ℕ) (out text : List ℕ) (place : ℕ) (buffer : List 
 pub placed_one : {at place : ℕ} {out text buffer : List ℕ} → (place ≡ place_after text at out) × (buffer ≡ buffer_after text at out)
     → Placed at out text place buffer
 placed_one {at} {place} {out} {text} p = record { place_is = p.0; buffer_is = λ h. p.1; length_is = ap length p.1 ∙ same_length text at out }
+
+-- the first text, put by a writer of that place and buffer
+pub placed_first : {at n m : ℕ} {out e f text : List ℕ} → n ≡ at → e ≡ out → (m ≡ place_after text n e) × (f ≡ buffer_after text n e)
+    → Placed at out text m f
+placed_first {m = m} {f = f} {text = text} p q s =
+    placed_one (subst₂ (λ (k : ℕ) (l : List ℕ). (m ≡ place_after text k l) × (f ≡ buffer_after text k l)) p q s)
 
 pub placed_next : {at n m : ℕ} {out x e f : List ℕ} (y : List ℕ) → Placed at out x n e → (m ≡ place_after y n e) × (f ≡ buffer_after y n e)
     → Placed at out (x ++ y) m f

@@ -1,18 +1,16 @@
 // Request 2: the guard check of a blob.
 use crate::input::{Buffer, Number};
 use crate::{input, output};
-use calculus::Guard;
 use std::io::{Result, Stdin, Stdout};
 
 fn guard(stdout: Stdout, sheet: &[u8]) -> Result<()> {
     output::text(stdout, b"guard")?;
-    let answer = calculus::guardedness::guard(sheet);
-    match answer {
-        Guard::Answered(b) => {
+    match calculus::guardedness::guard(sheet) {
+        Ok(b) => {
             output::accepted(stdout)?;
             output::truth(stdout, b)?;
         }
-        Guard::Refused(r) => {
+        Err(r) => {
             output::refused(stdout, r)?;
             output::truth(stdout, false)?;
         }

@@ -1,18 +1,16 @@
 // Request 3: the reference judge on a blob.
 use crate::input::{Buffer, Number};
 use crate::{input, output};
-use reference::Reference;
 use std::io::{Result, Stdin, Stdout};
 
 fn refer(stdout: Stdout, sheet: &[u8]) -> Result<()> {
     output::text(stdout, b"reference")?;
-    let answer = reference::judging::reference(sheet);
-    match answer {
-        Reference::Word(w) => {
+    match reference::judging::reference(sheet) {
+        Ok(w) => {
             output::accepted(stdout)?;
             output::number(stdout, w)?;
         }
-        Reference::Refused(r) => {
+        Err(r) => {
             output::refused(stdout, r)?;
             output::number(stdout, 0)?;
         }

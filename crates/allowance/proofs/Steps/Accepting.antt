@@ -18,8 +18,9 @@ use Rattle.sheet.proofs.Acceptance.Numbers.{refused_number}
 use Rattle.sheet.proofs.Checks.Seeking.{seek_start, seek_here}
 use Rattle.judge.specs.Cells.{table_bytes}
 use Rattle.judge.specs.Querying.{reported_query, query_check, queried_of}
-use Rattle.judge.specs.declared.Queried.{Queried}
-use Rattle.judge.specs.declared.Queried.TheVariants.{Refused as QueryRefused}
+use Rattle.std.specs.Prelude.{Err}
+use Rattle.judge.specs.Querying.{Queried}
+use Rattle.judge.specs.declared.QueryError.TheVariants.{Refused as QueryRefused}
 use Rattle.allowance.specs.Dealing.{deal}
 use Rattle.allowance.specs.Granting.{most_benches, refusal_of, bench_count_right, bench_queried, needs_of}
 use Rattle.allowance.specs.Granting.{is_refused, lowest_refused}
@@ -96,7 +97,7 @@ too_many_given states n h = ap₂ (λ (a b : Bool). not a && b) (ne_eqb (length 
 -- ---- a sheet that is refused is refused by the first bench
 
 module _ (s states t : List ℕ) {x : Refusal} (failed : sheet_check s ≡ Err x) where
-  all_refuse : (i : ℕ) → bench_queried s states t i ≡ QueryRefused x
+  all_refuse : (i : ℕ) → bench_queried s states t i ≡ Err (QueryRefused x)
   unfolding queried_of query_check
   all_refuse i = rw failed
 

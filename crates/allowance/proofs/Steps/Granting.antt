@@ -13,8 +13,8 @@ use Rattle.sheet.specs.Bytes.{byte, slice, pick}
 use Rattle.sheet.specs.RunningCalls.{AllBytes}
 use Rattle.judge.specs.Cells.{table_bytes}
 use Rattle.judge.specs.Querying.{reported_query, queried_of, table_queried}
-use Rattle.judge.specs.declared.Queried.{Queried}
-use Rattle.judge.specs.declared.Queried.TheVariants.{Judged}
+use Rattle.std.specs.Prelude.{Ok}
+use Rattle.judge.specs.Querying.{Queried}
 use Rattle.judge.proofs.Statements.QueryCorrect.{queries_correct}
 use Rattle.allowance.specs.Dealing.{of_bench}
 use Rattle.allowance.specs.Granting.{most_benches, end_to_end, queried_bench, short_bench, no_bench, no_benches, bench_table, bench_queried, bench_report, need_of}
@@ -246,11 +246,11 @@ module _ {s states t : List ℕ} {n : ℕ} {needs : List ℕ} {verdicts : List B
         next_short s states t grants w h r.right.few (e ∙ ap (λ (m : ℕ). short_bench m (of_bench grants i)) (need_at h)) (sized_room h)
         (omega (arith, need_at h))
 
-    pub turn_idle : {b : Bench} → AllBytes t → b ≡ queried_bench 0 (of_bench grants i) (reported_query (Judged (get_or verdicts i false) 0))
+    pub turn_idle : {b : Bench} → AllBytes t → b ≡ queried_bench 0 (of_bench grants i) (reported_query (Ok (record { verdict = get_or verdicts i false; visits = 0 })))
         → of_bench needs i ≡ 0 → Going s states t grants (set benches i b) u (i + 1)
     turn_idle bytes e none =
         next_idle s states t grants w h r.right.few
-        (e ∙ ap (λ (v : Bool). queried_bench 0 (of_bench grants i) (reported_query (Judged v 0))) (verdict_at h)) (sized_room h) need_none
+        (e ∙ ap (λ (v : Bool). queried_bench 0 (of_bench grants i) (reported_query (Ok (record { verdict = v; visits = 0 })))) (verdict_at h)) (sized_room h) need_none
         (nothing_filled s (byte states i) (bench_table s t i) (part_bytes t bytes (i * table_bytes s) (table_bytes s))
         (r.none_refused i h) need_none)
       where

@@ -15,8 +15,9 @@ use Rattle.sheet.proofs.Checks.Seeking.{Seeking, seek_start, seek_here, seek_nex
 use Rattle.sheet.proofs.Acceptance.Numbers.{refused_number}
 use Rattle.judge.specs.Cells.{table_bytes}
 use Rattle.judge.specs.Querying.{reported_query, queried_of}
-use Rattle.judge.specs.declared.Queried.{Queried}
-use Rattle.judge.specs.declared.Queried.TheVariants.{Judged, WrongCount as QueryWrongCount, Refused as QueryRefused}
+use Rattle.std.specs.Prelude.{Ok, Err}
+use Rattle.judge.specs.Querying.{Queried}
+use Rattle.judge.specs.declared.QueryError.TheVariants.{WrongCount as QueryWrongCount, Refused as QueryRefused}
 use Rattle.allowance.specs.Granting.{bench_queried, bench_report, need_of, is_refused, lowest_refused, refusal_of, answer_benches, reported_answer}
 use Rattle.allowance.specs.Internal.Benches.{ReportsZeroBelow, FindsNeeds}
 use Rattle.allowance.specs.declared.Answer.{Answer}
@@ -54,13 +55,13 @@ module _ (s states t : List ℕ) where
   refused_by_lem q i e = ap (λ (a : Queried). not (eqb (reported_query a).number 0)) e
 
   module _ {needs : List ℕ} {verdicts : List Bool} {i : ℕ} (w : Needing needs verdicts i) where
-    pub need_next : (v : Bool) (n : ℕ) → i < length states → Judged v n ≡ bench_queried s states t i
+    pub need_next : (v : Bool) (n : ℕ) → i < length states → Ok (record { verdict = v; visits = n }) ≡ bench_queried s states t i
         → Needing (set needs i n) (set verdicts i v) (i + 1)
     need_next v n h e =
         record {
           place_each = length-set needs i n ∙ w.place_each;
           verdict_each = length-set verdicts i v ∙ w.verdict_each;
-          seeking = seek_next w.seeking h (sym (refused_by_lem (Judged v n) i e));
+          seeking = seek_next w.seeking h (sym (refused_by_lem (Ok (record { verdict = v; visits = n })) i e));
           taken = λ j l. elim (ℕ_discrete j i) [
             | yes same ↦ ap (λ (x : ℕ). (bench_report s states t x).number) same ∙ sym (ap (λ (q : Queried). (reported_query q).number) e)
             | no other ↦ w.taken j (omega arith)
@@ -98,11 +99,11 @@ module _ (s states t : List ℕ) where
         not_dealt : refusal_of q ≡ Dealt → ⊥
         not_dealt x = let z : (reported_answer (refusal_of q)).number ≡ 0 = ap (λ (a : Answer). (reported_answer a).number) x in omega arith
 
-    pub need_miscounted : i < length states → QueryWrongCount ≡ bench_queried s states t i → FindsNeeds s states t WrongCount needs verdicts
-    need_miscounted h e = refused_first QueryWrongCount h e (omega arith) (omega arith)
+    pub need_miscounted : i < length states → (Err QueryWrongCount) ≡ bench_queried s states t i → FindsNeeds s states t WrongCount needs verdicts
+    need_miscounted h e = refused_first (Err QueryWrongCount) h e (omega arith) (omega arith)
 
-    pub need_refused : (x : Refusal) → i < length states → QueryRefused x ≡ bench_queried s states t i → FindsNeeds s states t (Refused x) needs verdicts
-    need_refused x h e = refused_first (QueryRefused x) h e (refused_number x) (refused_number x)
+    pub need_refused : (x : Refusal) → i < length states → Err (QueryRefused x) ≡ bench_queried s states t i → FindsNeeds s states t (Refused x) needs verdicts
+    need_refused x h e = refused_first (Err (QueryRefused x)) h e (refused_number x) (refused_number x)
 
     -- no bench is
     pub need_end : length states ≤ i → FindsNeeds s states t Dealt needs verdicts

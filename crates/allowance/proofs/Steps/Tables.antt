@@ -11,7 +11,7 @@ use Rattle.sheet.specs.Bytes.{slice}
 use Rattle.judge.specs.Cells.{table_bytes}
 use Rattle.judge.specs.LargestTable.{largest_table}
 use Rattle.judge.specs.Querying.{queried_of, table_queried}
-use Rattle.judge.specs.declared.Queried.{Queried}
+use Rattle.judge.specs.Querying.{Queried}
 use Rattle.judge.proofs.Statements.LargestTable.{every_table_fits}
 use Rattle.allowance.specs.Granting.{most_benches}
 use Rattle.allowance.specs.Internal.Copies.{with_part}

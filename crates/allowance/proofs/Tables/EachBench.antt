@@ -14,8 +14,8 @@ use Rattle.judge.specs.Cells.{cell_bytes}
 use Rattle.judge.specs.Querying.{QueryReport, reported_query, queried_of, table_queried, query_report_of, Queries}
 use Rattle.judge.specs.Lists.{Calls, none, call}
 use Rattle.judge.specs.Auditing.{AuditReport, audited_of, reported_audit, Audits}
-use Rattle.judge.specs.declared.Queried.{Queried}
-use Rattle.judge.specs.declared.Audited.{Audited}
+use Rattle.judge.specs.Auditing.{Audited}
+use Rattle.judge.specs.Querying.{Queried}
 use Rattle.judge.proofs.Statements.QueryCorrect.{queries_correct}
 use Rattle.judge.proofs.Statements.AuditCorrect.{audits_correct}
 use Rattle.allowance.specs.Granting.{queried_bench, short_bench}

@@ -22,8 +22,9 @@ use Rattle.sheet.proofs.Checks.Lowest.{lowest_bound, lowest_below, lowest_found}
 use Rattle.judge.specs.Cells.{table_bytes}
 use Rattle.judge.specs.CallNumbers.{QueryNumbers}
 use Rattle.judge.specs.Querying.{QueryReport, reported_query, table_queried}
-use Rattle.judge.specs.declared.Queried.{Queried}
-use Rattle.judge.specs.declared.Queried.TheVariants.{Judged, WrongCount as QueryWrongCount, Refused as QueryRefused}
+use Rattle.std.specs.Prelude.{Ok, Err}
+use Rattle.judge.specs.Querying.{Queried}
+use Rattle.judge.specs.declared.QueryError.TheVariants.{WrongCount as QueryWrongCount, Refused as QueryRefused}
 use Rattle.judge.proofs.Statements.CallNumbers.{call_numbers}
 use Rattle.allowance.specs.Granting.{most_benches, refusal_of, bench_table, bench_queried, bench_report}
 use Rattle.allowance.specs.Granting.{is_refused, lowest_refused, answer_benches, answer_of}
@@ -54,26 +55,26 @@ below_44 TableByte = omega arith
 below_44 OutputShort = omega arith
 
 own_below_44 : (q : Queried) → (reported_query q).number < 44
-own_below_44 (Judged v n) = omega arith
-own_below_44 QueryWrongCount = omega arith
-own_below_44 (QueryRefused x) = below_44 x
+own_below_44 (Ok (record { verdict = v; visits = n })) = omega arith
+own_below_44 (Err QueryWrongCount) = omega arith
+own_below_44 (Err (QueryRefused x)) = below_44 x
 
 -- the whole call has the number and the place of the bench
 same_number : (q : Queried) → (reported_query q).number ≡ (reported_answer (refusal_of q)).number
-same_number (Judged v n) = refl
-same_number QueryWrongCount = refl
-same_number (QueryRefused x) = refl
+same_number (Ok j) = refl
+same_number (Err QueryWrongCount) = refl
+same_number (Err (QueryRefused x)) = refl
 
 same_place : (q : Queried) → (reported_query q).place ≡ (reported_answer (refusal_of q)).place
-same_place (Judged v n) = refl
-same_place QueryWrongCount = refl
-same_place (QueryRefused x) = refl
+same_place (Ok j) = refl
+same_place (Err QueryWrongCount) = refl
+same_place (Err (QueryRefused x)) = refl
 
 -- a query that is not refused has place 0
 place_of_none : (q : Queried) → (reported_query q).number ≡ 0 → (reported_query q).place ≡ 0
-place_of_none (Judged v n) e = refl
-place_of_none QueryWrongCount e = refl
-place_of_none (QueryRefused x) e = absurd (omega (arith, refused_number x))
+place_of_none (Ok j) e = refl
+place_of_none (Err QueryWrongCount) e = refl
+place_of_none (Err (QueryRefused x)) e = absurd (omega (arith, refused_number x))
 
 -- a part of a buffer is as long as the table, or the buffer ends before the table does
 pub table_length : (s t : List ℕ) (i : ℕ) → length (bench_table s t i) ≤ table_bytes s

@@ -18,7 +18,6 @@ use Rattle.calculus.specs.Definition2.{guarded_in}
 use Rattle.calculus.specs.Decode.{formula}
 use Rattle.calculus.specs.GuardCheck.{answer_guard, guard_of}
 use Rattle.calculus.specs.Internal.GuardContracts.{bound_since, Since, GuardedSince}
-use Rattle.calculus.specs.declared.Guard.TheVariants.{Answered, Refused}
 use Rattle.sheet.proofs.Nodes.Children.{PairChildren, ModalChild, BinderChild, node_kind_lem, pair_children, modal_child, binder_child}
 use Rattle.calculus.proofs.Definition2.Since.{at_constant, at_pair, at_modal, at_variable, at_binder, since_root}
 
@@ -61,10 +60,10 @@ module _ (r : List ℕ) (n first : ℕ) (pre : Since r n first) (f : Fields) (is
     }
 
     -- a first child that is not guarded decides
-    pub step_failed : (p : Bool) → GuardedSince r f.x first p → p ≡ false → GuardedSince r n first false
+    pub step_failed : (p : Bool) → GuardedSince r f.x first p → p ≡ false → GuardedSince r n first p
     step_failed p s e = record {
-      is = λ a. at_pair pre.kept a n first pre.among (omega (arith, kind_is)) (omega (arith, kind_is)) false
-          (ap (λ (c : Bool). c && guarded_in (formula a r (node_y r n)) (bound_since r first)) (sym e ∙ (s.is a ∙ ap (λ (c : ℕ). guarded_in (formula a r c) (bound_since r first)) first_is)));
+      is = λ a. at_pair pre.kept a n first pre.among (omega (arith, kind_is)) (omega (arith, kind_is)) p
+          (e ∙ ap (λ (c : Bool). c && guarded_in (formula a r (node_y r n)) (bound_since r first)) (sym e ∙ (s.is a ∙ ap (λ (c : ℕ). guarded_in (formula a r c) (bound_since r first)) first_is)));
     }
 
   module _ (h : 4 ≤ f.kind) (g : f.kind < 6) where
@@ -107,7 +106,7 @@ module _ (r : List ℕ) (n first : ℕ) (pre : Since r n first) (f : Fields) (is
 
 -- the whole sheet
 module _ (s : List ℕ) where
-  pub guard_refused : (x : Refusal) → sheet_check s ≡ Err x → Refused x ≡ guard_of s
+  pub guard_refused : (x : Refusal) → sheet_check s ≡ Err x → Err x ≡ guard_of s
   unfolding guard_of
   guard_refused x e = ap (answer_guard s) (sym e)
 
@@ -117,8 +116,8 @@ module _ (s : List ℕ) where
         subst (λ (x : List ℕ). Since x 0 0) (sym q)
         (record { entries = entry_count (actions_body s); kept = rule_kept s e; among = (rule_kept s e).some_nodes; since = omega arith })
 
-    pub guard_answered : (b : Bool) → GuardedSince r 0 0 b → Answered b ≡ guard_of s
+    pub guard_answered : (b : Bool) → GuardedSince r 0 0 b → Ok b ≡ guard_of s
     unfolding guard_of
     guard_answered b g =
-        ap Answered (subst (λ (x : List ℕ). b ≡ guarded_in (formula (actions_body s) x 0) (bound_since x 0)) q (g.is (actions_body s)) ∙ since_root (rule_kept s e) (actions_body s)) ∙
+        ap Ok (subst (λ (x : List ℕ). b ≡ guarded_in (formula (actions_body s) x 0) (bound_since x 0)) q (g.is (actions_body s)) ∙ since_root (rule_kept s e) (actions_body s)) ∙
         ap (answer_guard s) (sym e)

@@ -6,9 +6,11 @@ use mathlib.Core.List.{List}
 use mathlib.Core.Logic.{◌⊎◌, inl, inr}
 use native.Mathlib.Omega.{arith}
 use native.Mathlib.Nat.{pow-suc, eq-or-lt_of_le, le_of_suc-le-suc, add-zero}
+use Rattle.std.specs.Int.Bits.{bit_or, or_shifted_r}
+use Rattle.std.proofs.Math.Pow.{shl_exact}
+use Rattle.std.proofs.Common.{lit<, ◌*◌, ◌%◌}
 use native.Mathlib.Numerals.{add-one}
 use lib.Dec.{ltb, leb, eqb}
-use lib.Pow.{pow_mono}
 use borrow.Author.Tests.{ltb-true, ltb-false, ne_eqb}
 use Rattle.sheet.specs.Bytes.{pick}
 use Rattle.sheet.specs.Actions.{entry_count, entry_x, entry_y}
@@ -91,55 +93,49 @@ module _ (A : ℕ) (a : List ℕ) (e action : ℕ) (f : Fields) (is : f ≡ fiel
   unfolding meets
   meets_range q = ap (λ (g : Fields). leb g.x action && leb action g.y) is ∙ in_meaning_lem 6 q
 
-  module _ (not-0 : f.kind ≡ 0 → ⊥) (not-1 : f.kind ≡ 1 → ⊥) (not-2 : f.kind ≡ 2 → ⊥) (not-3 : f.kind ≡ 3 → ⊥) (not-4 : f.kind ≡ 4 → ⊥) (not-5 : f.kind ≡ 5 → ⊥) (not-6 : f.kind ≡ 6 → ⊥) where
-    pub meets_unknown : false ≡ meets A (action_formula a e) action
-    unfolding meets
-    meets_unknown =
-        let s : entry_sort f.kind ≡ unknown_entry =
-        simp (ne_eqb _ 0 not-0, ne_eqb _ 1 not-1, ne_eqb _ 2 not-2, ne_eqb _ 3 not-3, ne_eqb _ 4 not-4, ne_eqb _ 5 not-5, ne_eqb _ 6 not-6) in
-        sym (ap (λ (t : EntrySort). meets A (entry_formula (action_formula a) a e t) action) s) ∙ in_meaning_lem f.kind refl
+  pub meets_unknown : 6 < f.kind → false ≡ meets A (action_formula a e) action
+  unfolding meets
+  meets_unknown l =
+      let other = λ (k : ℕ) (h : k ≤ 6). ne_eqb f.kind k (λ q. omega arith) in
+      let s : entry_sort f.kind ≡ unknown_entry =
+      simp (other 0 (omega arith), other 1 (omega arith), other 2 (omega arith), other 3 (omega arith), other 4 (omega arith), other 5 (omega arith), other 6 (omega arith)) in
+      sym (ap (λ (t : EntrySort). meets A (entry_formula (action_formula a) a e t) action) s) ∙ in_meaning_lem f.kind refl
 
   module _ (m : ℕ) (mask : m ≡ mask_up_to e A a action) where
-    x_bit : (p : Bool) → p ≡ bit m f.x → p ≡ meets A (operand (action_formula a) (entry_x a e) (ltb (entry_x a e) e)) action
-    x_bit p q = q ∙ (ap₂ bit mask (ap (λ (g : Fields). g.x) is) ∙ operand_bit A a action e (entry_x a e))
+    x_bit : bit m f.x ≡ meets A (operand (action_formula a) (entry_x a e) (ltb (entry_x a e) e)) action
+    x_bit = ap₂ bit mask (ap (λ (g : Fields). g.x) is) ∙ operand_bit A a action e (entry_x a e)
 
-    y_bit : (p : Bool) → p ≡ bit m f.y → p ≡ meets A (operand (action_formula a) (entry_y a e) (ltb (entry_y a e) e)) action
-    y_bit p q = q ∙ (ap₂ bit mask (ap (λ (g : Fields). g.y) is) ∙ operand_bit A a action e (entry_y a e))
+    y_bit : bit m f.y ≡ meets A (operand (action_formula a) (entry_y a e) (ltb (entry_y a e) e)) action
+    y_bit = ap₂ bit mask (ap (λ (g : Fields). g.y) is) ∙ operand_bit A a action e (entry_y a e)
 
-    module _ (x y r : Bool) (at_x : x ≡ bit m f.x) (at_y : y ≡ bit m f.y) where
-      pub meets_or : f.kind ≡ 3 → r ≡ (x || y) → r ≡ meets A (action_formula a e) action
-      unfolding meets
-      meets_or k q = q ∙ (ap₂ ◌||◌ (x_bit x at_x) (y_bit y at_y) ∙ in_meaning_lem 3 k)
-
-      pub meets_and : f.kind ≡ 4 → r ≡ (x && y) → r ≡ meets A (action_formula a e) action
-      unfolding meets
-      meets_and k q = q ∙ (ap₂ ◌&&◌ (x_bit x at_x) (y_bit y at_y) ∙ in_meaning_lem 4 k)
-
-    pub meets_not : (x r : Bool) → x ≡ bit m f.x → f.kind ≡ 5 → r ≡ (ltb action A && not x) → r ≡ meets A (action_formula a e) action
+    pub meets_or : f.kind ≡ 3 → (bit m f.x || bit m f.y) ≡ meets A (action_formula a e) action
     unfolding meets
-    meets_not x r at_x k q = q ∙ (ap (λ (b : Bool). ltb action A && not b) (x_bit x at_x) ∙ in_meaning_lem 5 k)
+    meets_or k = ap₂ ◌||◌ x_bit y_bit ∙ in_meaning_lem 3 k
+
+    pub meets_and : f.kind ≡ 4 → (bit m f.x && bit m f.y) ≡ meets A (action_formula a e) action
+    unfolding meets
+    meets_and k = ap₂ ◌&&◌ x_bit y_bit ∙ in_meaning_lem 4 k
+
+    pub meets_not : f.kind ≡ 5 → (ltb action A && not (bit m f.x)) ≡ meets A (action_formula a e) action
+    unfolding meets
+    meets_not k = ap (λ (b : Bool). ltb action A && not b) x_bit ∙ in_meaning_lem 5 k
 
 -- the mask with one more entry
 module _ (A : ℕ) (a : List ℕ) (action e m : ℕ) (mask : m ≡ mask_up_to e A a action) where
-  pub mask_more : (b : Bool) (p : ℕ) → b ≡ meets A (action_formula a e) action → b ≡ true → p ≡ 2 ^ e → m + p ≡ mask_up_to (e + 1) A a action
+  pub mask_more : e < 32 → meets A (action_formula a e) action ≡ true → bit_or m (1 * 2 ^ e % 2 ^ 32) ≡ mask_up_to (e + 1) A a action
   unfolding mask_up_to
-  mask_more b p is t q = rw add-one (ap₂ ◌+◌ mask (q ∙ ap (λ (c : Bool). pick c (2 ^ e) 0) (sym t ∙ is)))
+  mask_more l t =
+      let bound : m < 2 ^ e = rw mask (mask_bound A a action e) in
+      let shifted : 1 * 2 ^ e % 2 ^ 32 ≡ 1 * 2 ^ e = shl_exact 1 e 32 (lit< tt) (omega arith) in
+      rw (shifted, or_shifted_r 1 e m bound, mask, add-one, t) (omega arith)
 
-  pub mask_still : (b : Bool) → b ≡ meets A (action_formula a e) action → b ≡ false → m ≡ mask_up_to (e + 1) A a action
+  pub mask_still : meets A (action_formula a e) action ≡ false → m ≡ mask_up_to (e + 1) A a action
   unfolding mask_up_to
-  mask_still b is t = rw add-one (sym (add-zero m) ∙ ap₂ ◌+◌ mask (ap (λ (c : Bool). pick c (2 ^ e) 0) (sym t ∙ is)))
+  mask_still t = rw (add-one, t, mask) (sym (add-zero (mask_up_to e A a action)))
 
-  pub mask_fits : (p : ℕ) → e < 32 → p ≡ 2 ^ e → m + p < 2 ^ 32
-  mask_fits p l q = omega (arith, mask_bound A a action e, pow-suc 2 e, pow_mono {i = suc e} {j = 32} l)
-
-module _ (A : ℕ) (a : List ℕ) (action : ℕ) where
-  pub mask_start : 0 ≡ mask_up_to 0 A a action
-  unfolding mask_up_to
-  mask_start = refl
-
-  pub mask_whole : (m e count : ℕ) → count ≡ min (entry_count a) 32 → e ≡ count → m ≡ mask_up_to e A a action → m ≡ meeting_mask A a action
-  unfolding meeting_mask
-  mask_whole m e count q p h = h ∙ ap (λ (n : ℕ). mask_up_to n A a action) (p ∙ q)
+pub mask_start : (A : ℕ) (a : List ℕ) (action : ℕ) → 0 ≡ mask_up_to 0 A a action
+unfolding mask_up_to
+mask_start A a action = refl
 
 pub meeting_bits : MeetingBits
 meeting_bits A a action e few l = meeting_bit A a action e few l

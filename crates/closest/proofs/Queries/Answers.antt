@@ -26,8 +26,9 @@ use Rattle.rows.proofs.Systems.Fuel.{each_map}
 use Rattle.judge.specs.Querying.{query_check, count_right, left_by}
 use Rattle.judge.specs.InTurn.{in_turn_check, holds_by, passed_before, answer_in_turn, in_turn_of, table_in_turn, QueriesInTurn}
 use Rattle.judge.proofs.Lists.SheetLists.{Takes, Fine, query_passes, count_passes}
-use Rattle.judge.specs.declared.InTurn.{InTurn}
-use Rattle.judge.specs.declared.InTurn.TheVariants.{Judged, WrongCount as TurnWrongCount, Refused as TurnRefused}
+use Rattle.std.specs.Prelude.{Ok, Err}
+use Rattle.judge.specs.InTurn.{InTurn}
+use Rattle.judge.specs.declared.QueryError.TheVariants.{WrongCount as TurnWrongCount, Refused as TurnRefused}
 use Rattle.closest.specs.Steps.{WayOf, stay, onward, Reached, reached_at, layers_from, reachable_states}
 use Rattle.closest.specs.Finding.{Found, everywhere, fails_at, states_of, first_failing, states_in_order, closest_found, searched, answer_found, answer_closest, closest_of, table_searched, reported_closest, Finds}
 use Rattle.closest.specs.Internal.Distances.{StepsMarked}
@@ -176,20 +177,20 @@ module _ (s : List ℕ) (accepted : sheet_check s ≡ Ok tt) where
         finds : {r : Closest} → r ≡ closest_of s t → Finds s t r u
         finds e = (e, (ap reported_closest e, call.1.1 ∙ same_table))
 
-        pub finds_refused : {x : Refusal} → q ≡ TurnRefused x → Finds s t (Refused x) u
+        pub finds_refused : {x : Refusal} → q ≡ Err (TurnRefused x) → Finds s t (Refused x) u
         unfolding in_turn_of
         finds_refused {x} e = go (in_turn_check s (states_in_order s) t) (count_right s t) refl refl (sym e ∙ call.0)
           where
-            go : (c : Check) (b : Bool) → in_turn_check s (states_in_order s) t ≡ c → count_right s t ≡ b → TurnRefused x ≡ answer_in_turn passed (visits (searched s t)) c b → Finds s t (Refused x) u
+            go : (c : Check) (b : Bool) → in_turn_check s (states_in_order s) t ≡ c → count_right s t ≡ b → Err (TurnRefused x) ≡ answer_in_turn passed (visits (searched s t)) c b → Finds s t (Refused x) u
             go (Ok tt) true f g h = let z : ◌≡◌ {A = ℕ} 0 1 = cc in absurd (omega arith)
             go (Ok tt) false f g h = let z : ◌≡◌ {A = ℕ} 0 1 = cc in absurd (omega arith)
             go (Err y) b f g h = let same : x ≡ y = cc in finds (ap Refused same ∙ sym (answer_is ∙ ap₂ (answer_closest (closest_found s t) (visits (searched s t))) f g))
 
-        pub finds_wrong_count : q ≡ TurnWrongCount → Finds s t WrongCount u
+        pub finds_wrong_count : q ≡ (Err TurnWrongCount) → Finds s t WrongCount u
         unfolding in_turn_of
         finds_wrong_count e = go (in_turn_check s (states_in_order s) t) (count_right s t) refl refl (sym e ∙ call.0)
           where
-            go : (c : Check) (b : Bool) → in_turn_check s (states_in_order s) t ≡ c → count_right s t ≡ b → TurnWrongCount ≡ answer_in_turn passed (visits (searched s t)) c b → Finds s t WrongCount u
+            go : (c : Check) (b : Bool) → in_turn_check s (states_in_order s) t ≡ c → count_right s t ≡ b → (Err TurnWrongCount) ≡ answer_in_turn passed (visits (searched s t)) c b → Finds s t WrongCount u
             go (Ok tt) true f g h = let z : ◌≡◌ {A = ℕ} 0 1 = cc in absurd (omega arith)
             go (Ok tt) false f g h = finds (sym (answer_is ∙ ap₂ (answer_closest (closest_found s t) (visits (searched s t))) f g))
             go (Err y) b f g h = let z : ◌≡◌ {A = ℕ} 0 1 = cc in absurd (omega arith)
@@ -199,11 +200,11 @@ module _ (s : List ℕ) (accepted : sheet_check s ≡ Ok tt) where
           pub passed_is : k ≡ passed
           pub answer : {r : Closest} → r ≡ answer_found (closest_found s t) n → Finds s t r u
 
-        told : {k n : ℕ} → q ≡ Judged k n → Told k n
+        told : {k n : ℕ} → q ≡ Ok (record { passed = k; visits = n }) → Told k n
         unfolding in_turn_of
         told {k} {n} e = go (in_turn_check s (states_in_order s) t) (count_right s t) refl refl (sym e ∙ call.0)
           where
-            go : (c : Check) (b : Bool) → in_turn_check s (states_in_order s) t ≡ c → count_right s t ≡ b → Judged k n ≡ answer_in_turn passed (visits (searched s t)) c b → Told k n
+            go : (c : Check) (b : Bool) → in_turn_check s (states_in_order s) t ≡ c → count_right s t ≡ b → Ok (record { passed = k; visits = n }) ≡ answer_in_turn passed (visits (searched s t)) c b → Told k n
             go (Ok tt) true f g h =
                 let same : n ≡ visits (searched s t) = cc in
                 record {
@@ -213,8 +214,8 @@ module _ (s : List ℕ) (accepted : sheet_check s ≡ Ok tt) where
             go (Ok tt) false f g h = let z : ◌≡◌ {A = ℕ} 0 1 = cc in absurd (omega arith)
             go (Err y) b f g h = let z : ◌≡◌ {A = ℕ} 0 1 = cc in absurd (omega arith)
 
-        pub answer_required : {k n : ℕ} → q ≡ Judged k n → AnswerRequires order count marks k
+        pub answer_required : {k n : ℕ} → q ≡ Ok (record { passed = k; visits = n }) → AnswerRequires order count marks k
         answer_required e = subst (AnswerRequires order count marks) (sym (told e).passed_is) right.required
 
-        pub finds_answer : {k n : ℕ} {r : Closest} → q ≡ Judged k n → Answered order count marks k n r → Finds s t r u
+        pub finds_answer : {k n : ℕ} {r : Closest} → q ≡ Ok (record { passed = k; visits = n }) → Answered order count marks k n r → Finds s t r u
         finds_answer {k} {n} {r} e a = (told e).answer (right.answered n r (subst (λ (j : ℕ). Answered order count marks j n r) (told e).passed_is a))

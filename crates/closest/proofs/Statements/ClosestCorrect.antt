@@ -27,8 +27,8 @@ use Rattle.judge.specs.Lists.{Calls, none as no-calls}
 use Rattle.judge.specs.Demand3.{RefusedState}
 use Rattle.judge.specs.Auditing.{AuditReport, reported_audit, audited_of, Audits}
 use Rattle.judge.specs.AuditCorrect.{TableSolved}
-use Rattle.judge.specs.declared.Queried.{Queried}
-use Rattle.judge.specs.declared.Audited.{Audited}
+use Rattle.judge.specs.Auditing.{Audited}
+use Rattle.judge.specs.Querying.{Queried}
 use Rattle.judge.proofs.Lists.SheetLists.{Takes, Fine, judged_report}
 use Rattle.judge.proofs.Statements.AuditCorrect.{audits_correct}
 use Rattle.judge.proofs.Statements.CallNumbers.{call_numbers}

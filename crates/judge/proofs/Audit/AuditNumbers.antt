@@ -22,7 +22,7 @@ use Rattle.judge.specs.Clearing.{clear_check}
 use Rattle.judge.specs.Querying.{bytes_right}
 use Rattle.judge.specs.Auditing.{every_byte, byte_loop_free, audit_check, audit_right, answer_audited, audited_of, AuditReport, reported_audit, Audits}
 use Rattle.judge.specs.AuditCorrect.{FilledCell, TableLong, BytesSmall, AuditNotRefused, AuditAnswered}
-use Rattle.judge.specs.declared.Audited.{Audited}
+use Rattle.judge.specs.Auditing.{Audited}
 use Rattle.judge.proofs.Statements.CallNumbers.{clear_unread, clear_short, clear_fits}
 use Rattle.judge.proofs.Steps.ScanSteps.{bytes_small, byte_over}
 use Rattle.judge.proofs.Audit.FilledCells.{every_filled, some_filled, right_exactly, miscounted_wrong}

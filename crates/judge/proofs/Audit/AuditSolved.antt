@@ -23,7 +23,7 @@ use Rattle.judge.specs.QueryCorrect.{cell_byte, QueryCorrect}
 use Rattle.judge.specs.CallNumbers.{NoLoopAhead, QueryNumbers}
 use Rattle.judge.specs.Demand3.{RefusedState}
 use Rattle.judge.specs.AuditCorrect.{FilledCell, AuditNotRefused, AuditRight, TableSolved}
-use Rattle.judge.specs.declared.Queried.{Queried}
+use Rattle.judge.specs.Querying.{Queried}
 use Rattle.judge.proofs.Cells.CellLayout.{table_layout, position_inside, valid_in}
 use Rattle.judge.proofs.Cells.CountLayout.{cells_byte}
 use Rattle.judge.proofs.Statements.OneSolution.{Settled, free_settled, settled_free, written_falls, solves_all}

@@ -3,7 +3,7 @@ use Rattle.std.proofs.Common.{◌≡◌, ℕ, List, [], ◌∷◌, sym, refl, ap
 use Rattle.judge.specs.Clearing.{table_cleared, ClearReport, reported_clear, Clears}
 use Rattle.judge.specs.Querying.{queried_of, table_queried, QueryReport, reported_query}
 use Rattle.judge.specs.Lists.{JustCleared, reports, table_after, Calls, none, call, CallsExactly}
-use Rattle.judge.specs.declared.Cleared.{Cleared}
+use Rattle.judge.specs.Clearing.{Cleared}
 
 calls_report : (s : List ℕ) {t states v : List ℕ} {answers : List QueryReport} → Calls s t states answers v → answers ≡ reports s t states
 unfolding reports

@@ -17,7 +17,8 @@ use Rattle.judge.specs.Cells.{Cell, cell, rows, enough, position_of, cell_at, ce
 use Rattle.judge.specs.StoredCount.{stored_count, filled_cells, table_with, HoldsCount}
 use Rattle.graph.specs.LoopTest.{loop_free}
 use Rattle.judge.specs.Querying.{bytes_right, query_check, count_right, result_of, answer_queried, queried_of, left_by, table_queried, QueryReport, reported_query}
-use Rattle.judge.specs.declared.Queried.TheVariants.{Refused}
+use Rattle.std.specs.Prelude.{Err}
+use Rattle.judge.specs.declared.QueryError.TheVariants.{Refused}
 use Rattle.judge.specs.Lists.{reports, table_after, Reported, SameAnswers, visits_of, judged_states}
 use Rattle.rows.proofs.Systems.Systems.{Each, queries, total, final, Solvable}
 use Rattle.rows.proofs.Tables.Counting.{count_cong, count_none, count_le}
@@ -138,7 +139,7 @@ module _ (s : List ℕ) (accepted : sheet_check s ≡ Ok tt) where
   unfolding queried_of
   refused u state h = ap (λ (c : Check). reported_query (answer_queried (result_of s state u) c (count_right s u))) (query_fails u state h) ∙ go (ltb state states_of)
     where
-      go : (b : Bool) → reported_query (Refused (pick b Loop NoSuchState)) ≡ record { number = pick b 12 11; place = 0; verdict = false; visits = 0 }
+      go : (b : Bool) → reported_query (Err (Refused (pick b Loop NoSuchState))) ≡ record { number = pick b 12 11; place = 0; verdict = false; visits = 0 }
       go true = refl
       go false = refl
 

@@ -5,7 +5,7 @@ use Rattle.judge.specs.Clearing.{table_cleared}
 use Rattle.judge.specs.Lists.{JustCleared, table_after}
 use Rattle.judge.specs.Auditing.{audited_of, reported_audit, Audits}
 use Rattle.judge.specs.AuditCorrect.{AuditsCorrect}
-use Rattle.judge.specs.declared.Audited.{Audited}
+use Rattle.judge.specs.Auditing.{Audited}
 use Rattle.judge.proofs.Audit.AuditNumbers.{audit_answered}
 use Rattle.judge.proofs.Audit.AuditSolved.{table_solved}
 use Rattle.judge.proofs.Audit.AuditKept.{Yes, cleared_yes, after_yes}

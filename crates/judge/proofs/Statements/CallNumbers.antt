@@ -26,9 +26,9 @@ use Rattle.judge.specs.Clearing.{clear_check, answer_cleared, cleared_of, emptie
 use Rattle.judge.specs.Querying.{bytes_right, query_check, count_right, result_of, answer_queried, queried_of, QueryReport, reported_query}
 use Rattle.judge.specs.Counting.{answer_counted, counted_of, CountReport, reported_count, ReadsCount}
 use Rattle.judge.specs.CallNumbers.{ClearNumbers, StateThere, NoLoopAhead, TableThere, CellsRight, QueryNumbers, CountNumbers, CallNumbers}
-use Rattle.judge.specs.declared.Cleared.{Cleared}
-use Rattle.judge.specs.declared.Queried.{Queried}
-use Rattle.judge.specs.declared.Counted.{Counted}
+use Rattle.judge.specs.Clearing.{Cleared}
+use Rattle.judge.specs.Counting.{Counted}
+use Rattle.judge.specs.Querying.{Queried}
 use Rattle.judge.proofs.Steps.ScanSteps.{bytes_small, byte_over}
 use Rattle.judge.proofs.Lists.JustCleared.{cleared_length, cleared_below, cleared_above}
 

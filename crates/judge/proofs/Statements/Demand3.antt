@@ -25,8 +25,9 @@ use Rattle.judge.specs.Cells.{Cell, cell, rows, written_rows, enough, position_o
 use Rattle.judge.specs.StoredCount.{filled_cells}
 use Rattle.judge.specs.Clearing.{table_cleared}
 use Rattle.judge.specs.Querying.{QueryReport, queried_of, table_queried, reported_query}
-use Rattle.judge.specs.declared.Queried.{Queried}
-use Rattle.judge.specs.declared.Queried.TheVariants.{Judged, WrongCount, Refused}
+use Rattle.std.specs.Prelude.{Ok, Err}
+use Rattle.judge.specs.Querying.{Queried}
+use Rattle.judge.specs.declared.QueryError.TheVariants.{WrongCount, Refused}
 use Rattle.judge.specs.OneSolution.{OneSolution}
 use Rattle.judge.specs.Lists.{reports, table_after, Reported, SameAnswers, visits_of, judged_states}
 use Rattle.judge.specs.Demand3.{RefusedState, ComesFrom, NeededFor, SameUnderExchange, ListCorrect, Demand3}
@@ -55,9 +56,9 @@ solution_of s = value (rows (plan_body s) (actions_body s) (rule_body s)) enough
 
 -- what a refused query reports
 refused_report_lem : (q : Queried) → (reported_query q).number ≢ 0 → ((reported_query q).verdict ≡ false) × ((reported_query q).visits ≡ 0)
-refused_report_lem (Judged v n) h = absurd (h refl)
-refused_report_lem WrongCount h = (refl, refl)
-refused_report_lem (Refused x) h = (refl, refl)
+refused_report_lem (Ok j) h = absurd (h refl)
+refused_report_lem (Err WrongCount) h = (refl, refl)
+refused_report_lem (Err (Refused x)) h = (refl, refl)
 
 refused_reports : (s states u : List ℕ) → Reported (λ state q. q.number ≢ 0 → (q.verdict ≡ false) × (q.visits ≡ 0)) states (reports s u states)
 unfolding reports

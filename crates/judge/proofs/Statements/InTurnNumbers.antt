@@ -24,7 +24,7 @@ use Rattle.judge.specs.StoredCount.{stored_count, filled_cells}
 use Rattle.judge.specs.Querying.{bytes_right, count_right, left_by}
 use Rattle.judge.specs.InTurn.{result_in_turn, in_turn_check, passed_before, holds_by, answer_in_turn, in_turn_of, table_in_turn, InTurnReport, reported_in_turn, in_turn_report_of, QueriesInTurn}
 use Rattle.judge.specs.InTurnNumbers.{SomeState, StatesThere, NoLoopsAhead, TableThereFor, CellsRightFor, InTurnNumbers, EachNumbered}
-use Rattle.judge.specs.declared.InTurn.{InTurn}
+use Rattle.judge.specs.InTurn.{InTurn}
 use Rattle.judge.proofs.Steps.ScanSteps.{bytes_small, bytes_right_holds, byte_over}
 use Rattle.judge.proofs.Steps.TurnAnswers.{in_turn_unread, in_turn_no_state, in_turn_loop, StatesTaken, in_turn_short, in_turn_bad_byte, in_turn_miscounted, passes}
 

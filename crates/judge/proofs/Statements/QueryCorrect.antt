@@ -18,7 +18,7 @@ use Rattle.judge.specs.StoredCount.{stored_count, filled_cells, HoldsCount}
 use Rattle.judge.specs.OneSolution.{changed_rows}
 use Rattle.judge.specs.Querying.{bytes_right, query_check, count_right, result_of, answer_queried, queried_of, left_by, table_queried, reported_query, QueryReport, Queries}
 use Rattle.judge.specs.QueryCorrect.{cell_byte, QueryCorrect, QueriesCorrect}
-use Rattle.judge.specs.declared.Queried.{Queried}
+use Rattle.judge.specs.Querying.{Queried}
 use Rattle.judge.proofs.Lists.SheetLists.{takes, takes_valid, Fine, holds, fine_after}
 use Rattle.judge.proofs.Lists.FilledTables.{solved, newly_filled, needed_filled, filled_or_same, others_same}
 use Rattle.judge.proofs.Steps.ScanSteps.{bytes_small}

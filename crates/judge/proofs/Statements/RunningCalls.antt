@@ -5,7 +5,7 @@ use Rattle.judge.specs.Clearing.{ClearReport, reported_clear, Clears}
 use Rattle.judge.specs.Querying.{QueryReport}
 use Rattle.judge.specs.Lists.{Calls}
 use Rattle.judge.specs.Demand3.{ListCorrect, Demand3OfCalls}
-use Rattle.judge.specs.declared.Cleared.{Cleared}
+use Rattle.judge.specs.Clearing.{Cleared}
 use Rattle.judge.proofs.Lists.Called.{gave_none, cleared_report, cleared_leave}
 use Rattle.judge.proofs.Lists.JustCleared.{cleared_only}
 use Rattle.judge.proofs.Statements.CallNumbers.{call_numbers}

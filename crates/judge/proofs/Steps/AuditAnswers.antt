@@ -22,7 +22,7 @@ use Rattle.judge.specs.StoredCount.{stored_count, filled_cells}
 use Rattle.judge.specs.Querying.{bytes_right, count_right}
 use Rattle.judge.specs.Auditing.{every_byte, byte_loop_free, audit_check, audit_right, audited_of, answer_audited, reported_audit, Audits}
 use Rattle.judge.specs.AuditCorrect.{FilledCell}
-use Rattle.judge.specs.declared.Audited.TheVariants.{Answered, Refused}
+use Rattle.std.specs.Prelude.{Ok, Err}
 use Rattle.judge.specs.Internal.Preparing.{StatesAsked, StatesTold, looped, told}
 use Rattle.judge.specs.Internal.Auditing.{table_passes, ScannedRequires, StatesScanned, over, counted, AuditRequires, LongTableRequires}
 use Rattle.judge.specs.declared.Scanned.{Scanned}
@@ -37,21 +37,21 @@ use Rattle.judge.proofs.Steps.ScanSteps.{bytes_small, bytes_right_holds, over_ap
 -- ---- refusals, and yes or no
 
 module _ (s t : List ℕ) where
-  refused : (x : Refusal) → audit_check s t ≡ Err x → Audits s t (Refused x)
+  refused : (x : Refusal) → audit_check s t ≡ Err x → Audits s t (Err x)
   unfolding audited_of
   refused x e = with_report reported_audit (sym (ap (answer_audited (audit_right s t)) e))
 
-  pub audit_unread : (x : Refusal) → sheet_check s ≡ Err x → Audits s t (Refused x)
+  pub audit_unread : (x : Refusal) → sheet_check s ≡ Err x → Audits s t (Err x)
   unfolding audit_check
   audit_unread x e = refused x (rw (clear_unread s t x e))
 
   module _ (accepted : sheet_check s ≡ Ok tt) where
-    pub audit_short : length t < table_bytes s → Audits s t (Refused TableShort)
+    pub audit_short : length t < table_bytes s → Audits s t (Err TableShort)
     unfolding audit_check
     audit_short h = refused TableShort (rw (clear_short s t (sheet_kept s accepted) h))
 
     module _ (long : table_bytes s ≤ length t) where
-      audit_over : (i : ℕ) → i < cell_bytes s → 2 < byte_at t i → Audits s t (Refused TableByte)
+      audit_over : (i : ℕ) → i < cell_bytes s → 2 < byte_at t i → Audits s t (Err TableByte)
       unfolding audit_check
       audit_over i h o =
           refused TableByte
@@ -65,7 +65,7 @@ module _ (s t : List ℕ) where
         free_filled : (every_byte s (byte_loop_free s t) ≡ true) ↔ ((c : Cell) → FilledCell s t c → loop_free (plan_body s) c.state ≡ true)
         free_filled = every_filled s t (λ c b. loop_free (plan_body s) c.state)
 
-        audit_looping : (c : Cell) → FilledCell s t c → loop_free (plan_body s) c.state ≡ false → Audits s t (Refused LoopRefusal)
+        audit_looping : (c : Cell) → FilledCell s t c → loop_free (plan_body s) c.state ≡ false → Audits s t (Err LoopRefusal)
         unfolding audit_check
         audit_looping c f q =
             refused LoopRefusal
@@ -76,11 +76,11 @@ module _ (s t : List ℕ) where
             ))
 
         audit_judged : ((c : Cell) → FilledCell s t c → loop_free (plan_body s) c.state ≡ true) → {b : Bool} → b ≡ audit_right s t
-            → Audits s t (Answered b)
+            → Audits s t (Ok b)
         unfolding audited_of audit_check
         audit_judged free e =
             let passed : audit_check s t ≡ Ok tt = rw (clear_fits s t (sheet_kept s accepted) long, bytes_right_holds (cell_bytes s) t small, free_filled.1 free) in
-            with_report reported_audit (ap Answered e ∙ sym (ap (answer_audited (audit_right s t)) passed))
+            with_report reported_audit (ap Ok e ∙ sym (ap (answer_audited (audit_right s t)) passed))
 
 -- ---- the last step
 
@@ -93,14 +93,14 @@ module _ {s index t starts : List ℕ} {cells n : ℕ} (q : AuditRequires s inde
         | no e ↦ (q.cells_asked.started c.state e).loop_free_holds
       ]
 
-  answers : {b : Bool} → b ≡ audit_right s t → Audits s t (Answered b)
+  answers : {b : Bool} → b ≡ audit_right s t → Audits s t (Ok b)
   answers = audit_judged s t q.cells_asked.accepted q.long q.small all_free
 
-  pub audit_miscounted : stored_count s t ≢ n → Audits s t (Answered false)
+  pub audit_miscounted : stored_count s t ≢ n → Audits s t (Ok false)
   unfolding audit_right count_right
   audit_miscounted h = answers (sym (rw (ne_eqb (stored_count s t) (filled_cells s t) (λ e. h (e ∙ sym q.filled_are)))))
 
-  pub audit_passing : stored_count s t ≡ n → {b : Bool} → b ≡ table_passes s t → Audits s t (Answered b)
+  pub audit_passing : stored_count s t ≡ n → {b : Bool} → b ≡ table_passes s t → Audits s t (Ok b)
   unfolding audit_right count_right
   audit_passing e g = answers (g ∙ (all_cells s t ∙ sym (rw (eq-eqb (stored_count s t) (filled_cells s t) (e ∙ q.filled_are)))))
 
@@ -158,10 +158,10 @@ module _ {s index t : List ℕ} {cells : ℕ} (q : LongTableRequires s index t c
       pub others : (c : Cell) → FilledCell s t c → StartsFrom starts c.state
 
     module _ {r : Scanned} {starts : List ℕ} (w : StatesScanned (take cells t) states width r starts) where
-      pub blocks_over : r ≡ ByteOver → Audits s t (Refused TableByte)
+      pub blocks_over : r ≡ ByteOver → Audits s t (Err TableByte)
       blocks_over e = go w
         where
-          go : StatesScanned (take cells t) states width r starts → Audits s t (Refused TableByte)
+          go : StatesScanned (take cells t) states width r starts → Audits s t (Err TableByte)
           go (over _ i h g) =
               let l : i < cell_bytes s = omega (arith, taken_length) in
               audit_over s t q.accepted q.long i l (omega (arith, taken_byte i l))
@@ -210,7 +210,7 @@ module _ {s index t : List ℕ} {cells : ℕ} (q : LongTableRequires s index t c
       }
 
       -- a loop can be reached from one of the states
-      pub blocks_looped : {index' : List ℕ} {free : Bool} → free ≡ false → StatesTold s starts index' free → Audits s t (Refused LoopRefusal)
+      pub blocks_looped : {index' : List ℕ} {free : Bool} → free ≡ false → StatesTold s starts index' free → Audits s t (Err LoopRefusal)
       blocks_looped e (looped _ u h l) =
           let m = b.marked u h in
           audit_looping s t q.accepted q.long b.small m.0 m.1 (ap (loop_free (plan_body s)) m.2 ∙ l)

@@ -20,8 +20,9 @@ use Rattle.judge.specs.Internal.Packed.{verdict_in, visits_in}
 use Rattle.judge.specs.Internal.Index.{QueryRequires}
 use Rattle.judge.specs.Internal.Scanning.{scan_of}
 use Rattle.judge.specs.Internal.Judging.{TableRequires}
-use Rattle.judge.specs.declared.Queried.{Queried}
-use Rattle.judge.specs.declared.Queried.TheVariants.{Judged, WrongCount, Refused}
+use Rattle.std.specs.Prelude.{Ok, Err}
+use Rattle.judge.specs.Querying.{Queried}
+use Rattle.judge.specs.declared.QueryError.TheVariants.{WrongCount, Refused}
 use Rattle.judge.specs.declared.Scanned.{Scanned}
 use Rattle.judge.specs.declared.Scanned.TheVariants.{ByteOver, Filled}
 use Rattle.rows.proofs.Tables.Counting.{count_le}
@@ -38,25 +39,25 @@ module _ (s : List ℕ) (state : ℕ) (t : List ℕ) where
   answers : (r : Queried) (now : List ℕ) → r ≡ queried_of s state t → now ≡ table_queried s state t → Answers r now
   answers r now e f = (e, (ap reported_query e, f))
 
-  by_check : (x : Refusal) → query_check s state t ≡ Err x → Answers (Refused x) t
+  by_check : (x : Refusal) → query_check s state t ≡ Err x → Answers (Err (Refused x)) t
   unfolding queried_of table_queried
-  by_check x e = answers (Refused x) t (rw e) (rw e)
+  by_check x e = answers (Err (Refused x)) t (rw e) (rw e)
 
-  by_count : query_check s state t ≡ Ok tt → count_right s t ≡ false → Answers WrongCount t
+  by_count : query_check s state t ≡ Ok tt → count_right s t ≡ false → Answers (Err WrongCount) t
   unfolding queried_of table_queried
-  by_count e f = answers WrongCount t (rw (e, f)) (rw (e, f))
+  by_count e f = answers (Err WrongCount) t (rw (e, f)) (rw (e, f))
 
-  pub answers_refused : (x : Refusal) → sheet_check s ≡ Err x → Answers (Refused x) t
+  pub answers_refused : (x : Refusal) → sheet_check s ≡ Err x → Answers (Err (Refused x)) t
   unfolding query_check
   answers_refused x e = by_check x (rw e)
 
   module _ (e : sheet_check s ≡ Ok tt) where
-    pub answers_no_state : state_count (plan_body s) ≤ state → Answers (Refused NoSuchState) t
+    pub answers_no_state : state_count (plan_body s) ≤ state → Answers (Err (Refused NoSuchState)) t
     unfolding query_check
     answers_no_state h = by_check NoSuchState (rw (e, le-ltb state (state_count (plan_body s)) h))
 
     module _ (h : state < state_count (plan_body s)) where
-      pub answers_loop : loop_free (plan_body s) state ≡ false → Answers (Refused Loop) t
+      pub answers_loop : loop_free (plan_body s) state ≡ false → Answers (Err (Refused Loop)) t
       unfolding query_check
       answers_loop f = by_check Loop (rw (e, lt-ltb state (state_count (plan_body s)) h, f))
 
@@ -101,13 +102,13 @@ module _ (s t : List ℕ) (l : table_bytes s ≤ length t) where
 
 -- with all prepared
 module _ {s index : List ℕ} {state : ℕ} (q : QueryRequires s index state) (t : List ℕ) where
-  pub answers_short : length t < table_bytes s → Queries s state t (Refused TableShort) t
+  pub answers_short : length t < table_bytes s → Queries s state t (Err (Refused TableShort)) t
   unfolding query_check
   answers_short l =
       by_check s state t TableShort (rw (q.accepted, lt-ltb state (state_count (plan_body s)) q.state_below, q.loop_free_holds, lt-leb (table_bytes s) (length t) l))
 
   module _ (l : table_bytes s ≤ length t) where
-    pub answers_bad_byte : bytes_right (cell_bytes s) t ≡ false → Queries s state t (Refused TableByte) t
+    pub answers_bad_byte : bytes_right (cell_bytes s) t ≡ false → Queries s state t (Err (Refused TableByte)) t
     unfolding query_check
     answers_bad_byte g =
         by_check s state t TableByte
@@ -117,7 +118,7 @@ module _ {s index : List ℕ} {state : ℕ} (q : QueryRequires s index state) (t
     unfolding query_check
     passes g = rw (q.accepted, lt-ltb state (state_count (plan_body s)) q.state_below, q.loop_free_holds, le-leb (table_bytes s) (length t) l, g)
 
-    pub answers_miscounted : bytes_right (cell_bytes s) t ≡ true → stored_count s t ≢ filled_cells s t → Queries s state t WrongCount t
+    pub answers_miscounted : bytes_right (cell_bytes s) t ≡ true → stored_count s t ≢ filled_cells s t → Queries s state t (Err WrongCount) t
     unfolding count_right
     answers_miscounted g f = by_count s state t (passes g) (ne_eqb (stored_count s t) (filled_cells s t) f)
 
@@ -151,7 +152,7 @@ module _ {s index : List ℕ} {state : ℕ} {t : List ℕ} {cells stored : ℕ} 
   -- the cells that were decided, and then the count after them
   pub answers_judged : (w : ℕ) (v : Bool) (n : ℕ) (left u : List ℕ)
       → Decided s (cell 0 0 state) held w left → v ≡ verdict_in w → n ≡ visits_in w
-      → u ≡ take cells (left ++ drop cells t) ++ (in_four_bytes (stored + n) ++ drop (cells + count_bytes) (left ++ drop cells t)) → Queries s state t (Judged v n) u
+      → u ≡ take cells (left ++ drop cells t) ++ (in_four_bytes (stored + n) ++ drop (cells + count_bytes) (left ++ drop cells t)) → Queries s state t (Ok (record { verdict = v; visits = n })) u
   unfolding queried_of table_queried
   answers_judged w v n left u d p e f =
       let same : length left ≡ length held =
@@ -159,7 +160,7 @@ module _ {s index : List ℕ} {state : ℕ} {t : List ℕ} {cells stored : ℕ} 
       ∙ query_length (position_of (rule_body s)) (cell_bytes s) (cell_at (rule_body s)) (written_rows s) enough held (cell 0 0 state) in
       let r : out v n left ≡ result_of s state t = (λ i. out (p i) (e i) left) ∙ d.result ∙ ap (result_at s (cell 0 0 state)) held_cells in
       let checked = passes q.query t q.long q.bytes_right_holds in
-      answers s state t (Judged v n) u
-      (rw (checked, q.count_right_holds) (ap (λ (x : Result). Judged (verdict x) (visits x)) r))
+      answers s state t (Ok (record { verdict = v; visits = n })) u
+      (rw (checked, q.count_right_holds) (ap (λ (x : Result). Ok (record { verdict = verdict x; visits = visits x })) r))
       (rw (checked, q.count_right_holds) (counted_after s t q.long q.cells_are left u (stored + n) same f ∙ ap (λ (k : ℕ). table_with s left (k + n) t) q.stored_is
       ∙ ap (λ (x : Result). table_with s (table x) (stored_count s t + visits x) t) r))

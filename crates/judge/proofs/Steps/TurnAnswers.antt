@@ -23,8 +23,9 @@ use Rattle.judge.specs.Cells.{cell_bytes, table_bytes, cells_in, count_bytes}
 use Rattle.judge.specs.StoredCount.{in_four_bytes, stored_count, filled_cells, table_with}
 use Rattle.judge.specs.Querying.{bytes_right, count_right}
 use Rattle.judge.specs.InTurn.{root_cells, in_turn_check, result_in_turn, passed_before, in_turn_of, table_in_turn, reported_in_turn, QueriesInTurn}
-use Rattle.judge.specs.declared.InTurn.{InTurn}
-use Rattle.judge.specs.declared.InTurn.TheVariants.{Judged, WrongCount, Refused}
+use Rattle.std.specs.Prelude.{Ok, Err}
+use Rattle.judge.specs.InTurn.{InTurn}
+use Rattle.judge.specs.declared.QueryError.TheVariants.{WrongCount, Refused}
 use Rattle.judge.specs.Internal.Preparing.{RuleTold, StatesAsked, StatesTold, looped, told}
 use Rattle.judge.specs.Internal.Turns.{MarkRequires, StatesMarked, missing, marked, EachPrepared, holds_on, walk_in_turn, WalkRequires, WalkedInTurn, TurnsRequires}
 use Rattle.judge.proofs.Cells.CountLayout.{cells_length}
@@ -37,15 +38,15 @@ module _ (s states t : List ℕ) where
   answers : (r : InTurn) (now : List ℕ) → r ≡ in_turn_of s states t → now ≡ table_in_turn s states t → QueriesInTurn s states t r now
   answers r now e f = (e, (ap reported_in_turn e, f))
 
-  by_check : (x : Refusal) → in_turn_check s states t ≡ Err x → QueriesInTurn s states t (Refused x) t
+  by_check : (x : Refusal) → in_turn_check s states t ≡ Err x → QueriesInTurn s states t (Err (Refused x)) t
   unfolding in_turn_of table_in_turn
-  by_check x e = answers (Refused x) t (rw e) (rw e)
+  by_check x e = answers (Err (Refused x)) t (rw e) (rw e)
 
-  by_count : in_turn_check s states t ≡ Ok tt → count_right s t ≡ false → QueriesInTurn s states t WrongCount t
+  by_count : in_turn_check s states t ≡ Ok tt → count_right s t ≡ false → QueriesInTurn s states t (Err WrongCount) t
   unfolding in_turn_of table_in_turn
-  by_count e f = answers WrongCount t (rw (e, f)) (rw (e, f))
+  by_count e f = answers (Err WrongCount) t (rw (e, f)) (rw (e, f))
 
-  pub in_turn_unread : (x : Refusal) → sheet_check s ≡ Err x → QueriesInTurn s states t (Refused x) t
+  pub in_turn_unread : (x : Refusal) → sheet_check s ≡ Err x → QueriesInTurn s states t (Err (Refused x)) t
   unfolding in_turn_check
   in_turn_unread x e = by_check x (rw e)
 
@@ -53,7 +54,7 @@ module _ (s states t : List ℕ) where
     abbrev below : ℕ → Bool
     below state = ltb state (state_count (plan_body s))
 
-    pub in_turn_no_state : (u : ℕ) → Memᴰ u states → state_count (plan_body s) ≤ u → QueriesInTurn s states t (Refused NoSuchState) t
+    pub in_turn_no_state : (u : ℕ) → Memᴰ u states → state_count (plan_body s) ≤ u → QueriesInTurn s states t (Err (Refused NoSuchState)) t
     unfolding in_turn_check
     in_turn_no_state u m h =
         by_check NoSuchState
@@ -63,7 +64,7 @@ module _ (s states t : List ℕ) where
       pub all_below_lem : all_pass below states ≡ true
       all_below_lem = all_members below states (λ u m. lt-ltb u (state_count (plan_body s)) (all u m))
 
-      pub in_turn_loop : (u : ℕ) → Memᴰ u states → loop_free (plan_body s) u ≡ false → QueriesInTurn s states t (Refused Loop) t
+      pub in_turn_loop : (u : ℕ) → Memᴰ u states → loop_free (plan_body s) u ≡ false → QueriesInTurn s states t (Err (Refused Loop)) t
       unfolding in_turn_check
       in_turn_loop u m h =
           by_check Loop
@@ -81,10 +82,10 @@ none_marked s accepted is e = record {
 
 module _ (s : List ℕ) {states : List ℕ} (accepted : sheet_check s ≡ Ok tt) {count : ℕ} (is : count ≡ state_count (plan_body s))
     {starts : List ℕ} {b : Bool} (m : StatesMarked states count starts b) where
-  pub one_missing : b ≡ false → (t : List ℕ) → QueriesInTurn s states t (Refused NoSuchState) t
+  pub one_missing : b ≡ false → (t : List ℕ) → QueriesInTurn s states t (Err (Refused NoSuchState)) t
   one_missing e t = go m
     where
-      go : StatesMarked states count starts b → QueriesInTurn s states t (Refused NoSuchState) t
+      go : StatesMarked states count starts b → QueriesInTurn s states t (Err (Refused NoSuchState)) t
       go (missing _ u h l) = in_turn_no_state s states t accepted u h (omega arith)
       go (marked f _ _) = absurd (differ b f e)
 
@@ -107,7 +108,7 @@ module _ (s : List ℕ) {states : List ℕ} (accepted : sheet_check s ≡ Ok tt)
     list_asked r = record { accepted = accepted; rule_told = r; starts_below = λ u h. (listed u (named u h)).0 }
 
     pub list_looped : {index : List ℕ} {free : Bool} → free ≡ false → StatesTold s starts index free → (t : List ℕ)
-        → QueriesInTurn s states t (Refused Loop) t
+        → QueriesInTurn s states t (Err (Refused Loop)) t
     list_looped f (looped _ u h l) t = in_turn_loop s states t accepted (λ v m. (listed v m).0) u (named u h) l
     list_looped f (told g _ _) t = absurd (differ _ g f)
 
@@ -139,12 +140,12 @@ module _ {s states : List ℕ} (p : StatesTaken s states) (t : List ℕ) where
   states_free : all_pass (loop_free (plan_body s)) states ≡ true
   states_free = all_members (loop_free (plan_body s)) states p.free
 
-  pub in_turn_short : length t < table_bytes s → QueriesInTurn s states t (Refused TableShort) t
+  pub in_turn_short : length t < table_bytes s → QueriesInTurn s states t (Err (Refused TableShort)) t
   unfolding in_turn_check
   in_turn_short l = by_check s states t TableShort (rw (p.accepted, states_below_lem, states_free, lt-leb (table_bytes s) (length t) l))
 
   module _ (l : table_bytes s ≤ length t) where
-    pub in_turn_bad_byte : bytes_right (cell_bytes s) t ≡ false → QueriesInTurn s states t (Refused TableByte) t
+    pub in_turn_bad_byte : bytes_right (cell_bytes s) t ≡ false → QueriesInTurn s states t (Err (Refused TableByte)) t
     unfolding in_turn_check
     in_turn_bad_byte g = by_check s states t TableByte (rw (p.accepted, states_below_lem, states_free, le-leb (table_bytes s) (length t) l, g))
 
@@ -152,7 +153,7 @@ module _ {s states : List ℕ} (p : StatesTaken s states) (t : List ℕ) where
     unfolding in_turn_check
     passes g = rw (p.accepted, states_below_lem, states_free, le-leb (table_bytes s) (length t) l, g)
 
-    pub in_turn_miscounted : bytes_right (cell_bytes s) t ≡ true → stored_count s t ≢ filled_cells s t → QueriesInTurn s states t WrongCount t
+    pub in_turn_miscounted : bytes_right (cell_bytes s) t ≡ true → stored_count s t ≢ filled_cells s t → QueriesInTurn s states t (Err WrongCount) t
     unfolding count_right
     in_turn_miscounted g f = by_count s states t (passes g) (ne_eqb (stored_count s t) (filled_cells s t) f)
 
@@ -181,7 +182,7 @@ module _ {s index states t : List ℕ} {cells stored : ℕ} (q : TurnsRequires s
 
     -- the cells that the walk leaves, and then the count after them
     pub in_turn_judged : (u : List ℕ) → u ≡ take cells (left ++ drop cells t) ++ (in_four_bytes (stored + n) ++ drop (cells + count_bytes) (left ++ drop cells t))
-        → QueriesInTurn s states t (Judged k n) u
+        → QueriesInTurn s states t (Ok (record { passed = k; visits = n })) u
     unfolding in_turn_of table_in_turn
     in_turn_judged u f =
         let right = solved s q.prepared.accepted in
@@ -190,9 +191,9 @@ module _ {s index states t : List ℕ} {cells stored : ℕ} (q : TurnsRequires s
         let same : length left ≡ length held =
         ap length (w.left_is ∙ ap table (walk_is q.prepared held room)) ∙ fill_length right held (along right held conjunction (root_cells states)) in
         let checked = passes (states_taken q.prepared) t q.long q.bytes_right_holds in
-        answers s states t (Judged k n) u
+        answers s states t (Ok (record { passed = k; visits = n })) u
         (rw (checked, q.count_right_holds)
-        (ap₂ Judged (w.passed_is ∙ ap (λ (cells : List ℕ). passed_before (holds_on s cells) states) held_cells) (w.visits_are ∙ ap visits whole)))
+        (ap₂ (λ (k n : ℕ). Ok (record { passed = k; visits = n })) (w.passed_is ∙ ap (λ (cells : List ℕ). passed_before (holds_on s cells) states) held_cells) (w.visits_are ∙ ap visits whole)))
         (rw (checked, q.count_right_holds) (counted_after s t q.long q.cells_are left u (stored + n) same f
         ∙ ap₂ (λ (l : List ℕ) (m : ℕ). table_with s l m t) (w.left_is ∙ ap table whole) (ap₂ ◌+◌ q.stored_is (w.visits_are ∙ ap visits whole))))
       where

@@ -11,7 +11,7 @@ use Rattle.sheet.specs.Bytes.{pick}
 use Rattle.sheet.specs.Contents.{plan_body}
 use Rattle.sheet.specs.Plan.{state_count}
 use Rattle.sheet.specs.Reading.{sheet_check}
-use Rattle.std.specs.Prelude.{Err, Ok}
+use Rattle.std.specs.Prelude.{Result, Err, Ok}
 use Rattle.sheet.specs.Refusals.{Check}
 use Rattle.sheet.specs.declared.Refusal.{Refusal}
 use Rattle.sheet.specs.declared.Refusal.TheVariants.{TooManyStates}
@@ -25,25 +25,23 @@ use Rattle.sheet.proofs.Roundtrip.Promises.{round_trip}
 use Rattle.calculus.specs.MeetingMask.{bit}
 use Rattle.calculus.specs.Verdict.{Verdict}
 use Rattle.calculus.proofs.Table1.Verdicts.{verdict_below, verdict_decided}
-use Rattle.reference.specs.declared.Reference.{Reference}
-use Rattle.reference.specs.declared.Reference.TheVariants.{Word, Refused}
 use Rattle.reference.specs.Reference.{in_meaning, meaning_word, answer_reference, reference_of, ReferenceReport, reported_reference, reference_report_of, ByTable1}
 use Rattle.reference.specs.Demand2.{ReportedBySheet, Demand2}
 use Rattle.reference.proofs.Words.Words.{word_bit, word_high}
 
 module _ (s : List ℕ) where
   -- the promised answer, case by case
-  pub promised_refused : (x : Refusal) → sheet_check s ≡ Err x → Refused x ≡ reference_of s
+  pub promised_refused : (x : Refusal) → sheet_check s ≡ Err x → Err x ≡ reference_of s
   unfolding reference_of
   promised_refused x e = ap (answer_reference s) (sym e)
 
-  pub promised_large : sheet_check s ≡ Ok tt → 64 < state_count (plan_body s) → Refused TooManyStates ≡ reference_of s
+  pub promised_large : sheet_check s ≡ Ok tt → 64 < state_count (plan_body s) → Err TooManyStates ≡ reference_of s
   unfolding reference_of
-  promised_large e h = ap (λ (b : Bool). pick b (Refused TooManyStates) (Word (meaning_word s))) (sym (lt-ltb 64 (state_count (plan_body s)) h)) ∙ ap (answer_reference s) (sym e)
+  promised_large e h = ap (λ (b : Bool). pick b (Err TooManyStates) (Ok (meaning_word s))) (sym (lt-ltb 64 (state_count (plan_body s)) h)) ∙ ap (answer_reference s) (sym e)
 
-  pub promised_word : sheet_check s ≡ Ok tt → state_count (plan_body s) ≤ 64 → Word (meaning_word s) ≡ reference_of s
+  pub promised_word : sheet_check s ≡ Ok tt → state_count (plan_body s) ≤ 64 → Ok (meaning_word s) ≡ reference_of s
   unfolding reference_of
-  promised_word e h = ap (λ (b : Bool). pick b (Refused TooManyStates) (Word (meaning_word s))) (sym (le-ltb 64 (state_count (plan_body s)) h)) ∙ ap (answer_reference s) (sym e)
+  promised_word e h = ap (λ (b : Bool). pick b (Err TooManyStates) (Ok (meaning_word s))) (sym (le-ltb 64 (state_count (plan_body s)) h)) ∙ ap (answer_reference s) (sym e)
 
   -- the bits of the promised word
   word_bits : sheet_check s ≡ Ok tt → (t : ℕ) → (bit (meaning_word s) t ≡ true) ↔ Verdict s t
@@ -75,13 +73,13 @@ module _ (s : List ℕ) where
     in_order = given_in_order s (reference_report_of s).number (reference_report_of s).place
         (λ x e. let q = ap reported_reference (sym (promised_refused x e)) in (ap (λ (a : ReferenceReport). a.number) q, ap (λ (a : ReferenceReport). a.place) q))
         (λ e. elim (dec_lt 64 (state_count (plan_body s))) [
-          | yes h ↦ inr (let n : (reference_report_of s).number ≡ 13 = ap (λ (a : Reference). (reported_reference a).number) (sym (promised_large e h)) in omega arith)
-          | no h ↦ inl (ap (λ (a : Reference). (reported_reference a).number) (sym (promised_word e (omega arith))))
+          | yes h ↦ inr (let n : (reference_report_of s).number ≡ 13 = ap (λ (a : Result ℕ Refusal). (reported_reference a).number) (sym (promised_large e h)) in omega arith)
+          | no h ↦ inl (ap (λ (a : Result ℕ Refusal). (reported_reference a).number) (sym (promised_word e (omega arith))))
         ]);
   }
     where
-      number : {r : Reference} → r ≡ reference_of s → (reference_report_of s).number ≡ (reported_reference r).number
-      number q = ap (λ (a : Reference). (reported_reference a).number) (sym q)
+      number : {r : Result ℕ Refusal} → r ≡ reference_of s → (reference_report_of s).number ≡ (reported_reference r).number
+      number q = ap (λ (a : Result ℕ Refusal). (reported_reference a).number) (sym q)
 
       Numbers : Type 0
       Numbers =
@@ -107,9 +105,9 @@ module _ (s : List ℕ) where
           )
 
 -- a report with a refusal's number has the word 0
-refused_word : (r : Reference) → (reported_reference r).number ≢ 0 → (reported_reference r).word ≡ 0
-refused_word (Word w) n = absurd (n refl)
-refused_word (Refused x) n = refl
+refused_word : (r : Result ℕ Refusal) → (reported_reference r).number ≢ 0 → (reported_reference r).word ≡ 0
+refused_word (Ok w) n = absurd (n refl)
+refused_word (Err x) n = refl
 
 pub demand2 : Demand2
 demand2 = record {

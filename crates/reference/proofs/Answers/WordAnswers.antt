@@ -12,15 +12,13 @@ use Rattle.sheet.specs.Contents.{plan_body, actions_body, rule_body}
 use Rattle.sheet.specs.Plan.{state_count, action_count}
 use Rattle.sheet.specs.Rule.{node_count, node_kind, node_x}
 use Rattle.sheet.specs.Reading.{sheet_check}
-use Rattle.std.specs.Prelude.{Err, Ok}
+use Rattle.std.specs.Prelude.{Result, Err, Ok}
 use Rattle.sheet.specs.declared.Refusal.{Refusal}
 use Rattle.sheet.specs.declared.Refusal.TheVariants.{TooManyStates}
 use Rattle.sheet.specs.WellFormed.{WellFormedSheet}
 use Rattle.sheet.proofs.Acceptance.Parts.{sheet_kept}
 use Rattle.calculus.specs.MeetingMask.{bit}
 use Rattle.calculus.proofs.Table1.Verdicts.{verdict_context, verdict_decided}
-use Rattle.reference.specs.declared.Reference.{Reference}
-use Rattle.reference.specs.declared.Reference.TheVariants.{Word, Refused}
 use Rattle.reference.specs.Reference.{in_meaning, meaning_word, reference_of, reported_reference, References}
 use Rattle.reference.specs.Internal.Evaluating.{ActionMasks, SixSets, context_of, Restartable, Restarted, Ready, Evaluating, Evaluated}
 use Rattle.reference.proofs.Words.Words.{bit_zero, bit_ones}
@@ -64,10 +62,10 @@ module _ {s : List ℕ} (kept : WellFormedSheet s) (r : List ℕ) (rule : r ≡ 
 
 module _ (s : List ℕ) where
   -- the three clauses of the promise, from the first
-  promised : {r : Reference} → r ≡ reference_of s → References s r
+  promised : {r : Result ℕ Refusal} → r ≡ reference_of s → References s r
   promised q = (q, ap reported_reference q)
 
-  pub answer_refused : (x : Refusal) → sheet_check s ≡ Err x → References s (Refused x)
+  pub answer_refused : (x : Refusal) → sheet_check s ≡ Err x → References s (Err x)
   answer_refused x e = promised (promised_refused s x e)
 
   pub start_asked : sheet_check s ≡ Ok tt → (r : List ℕ) → r ≡ rule_body s → Restartable r 0 8
@@ -77,7 +75,7 @@ module _ (s : List ℕ) where
     count_is : count ≡ state_count (plan_body s)
     count_is = states ∙ ap state_count plan
 
-    pub answer_large : 64 < count → References s (Refused TooManyStates)
+    pub answer_large : 64 < count → References s (Err TooManyStates)
     answer_large h = promised (promised_large s e (omega (arith, count_is)))
 
     module _ (few : count ≤ 64) (a : List ℕ) (actions : a ≡ actions_body s) (A : ℕ) (labels : A ≡ action_count p) (masks : List ℕ) (met : ActionMasks a A masks)
@@ -99,9 +97,9 @@ module _ (s : List ℕ) where
         ready = first_ready kept r rule full full_is words re;
       }
 
-      pub answer_word_lem : (words' : List ℕ) (w : ℕ) → Evaluated s 0 words words' w → References s (Word w)
+      pub answer_word_lem : (words' : List ℕ) (w : ℕ) → Evaluated s 0 words words' w → References s (Ok w)
       unfolding meaning_word in_meaning
-      answer_word_lem words' w m = promised (ap Word is ∙ promised_word s e (omega (arith, count_is)))
+      answer_word_lem words' w m = promised (ap Ok is ∙ promised_word s e (omega (arith, count_is)))
         where
           is : w ≡ meaning_word s
           is = members_word (in_meaning s) m.are (λ t l. Iff.trans (verdict_context kept (context_of words) t l) (verdict_decided kept t l))

@@ -16,9 +16,9 @@ use Rattle.judge.specs.Clearing.{clear_check, answer_cleared, cleared_of, table_
 use Rattle.judge.specs.Counting.{answer_counted, counted_of}
 use Rattle.judge.specs.StoredCount.{stored_count}
 use Rattle.judge.specs.Lists.{table_after, reports}
-use Rattle.judge.specs.declared.Cleared.{Cleared}
+use Rattle.judge.specs.Clearing.{Cleared}
+use Rattle.judge.specs.Counting.{Counted}
 use Rattle.judge.specs.declared.Cleared.TheVariants as cleared
-use Rattle.judge.specs.declared.Counted.{Counted}
 use Rattle.judge.specs.declared.Counted.TheVariants as counted
 use Rattle.report.specs.Text.{total_line, text_of}
 use Rattle.report.specs.Reporting.{most_queries, least_output, report_check, answer_report, report_of, table_reported, output_reported, reported_text, WritesReport}

@@ -37,7 +37,7 @@ loop-i-preserved c =
     let h = c.loop-i-test.true in
     let q = c.would_answer-answer.ensures in
     need_next a.sheet.now a.states.now a.tables.now w.invariant _ _ h
-    (sym c.in-Judged.is
+    (sym c.in-Ok.is
     ∙ asks_bench a.sheet.now a.states.now a.tables.now p.sized w.i q c.slice_of.ensures)
 
 pub returns-in-WrongCount : goal.returns-in-WrongCount

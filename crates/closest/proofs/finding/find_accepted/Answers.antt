@@ -45,12 +45,12 @@ slice_bounds-query_in_turn-end c =
 pub answer_passed-requires : goal.answer_passed-requires
 answer_passed-requires c =
     let b = (goal.at.answer_passed-requires c).After-order_states-count in
-    answer_required (sheet b) (accepted b) c.args.table.now (ordered b) (marked b) c.query_in_turn-answer.ensures c.in-Judged.is
+    answer_required (sheet b) (accepted b) c.args.table.now (ordered b) (marked b) c.query_in_turn-answer.ensures c.in-Ok.is
 
-pub returns-in-Judged : goal.returns-in-Judged
-returns-in-Judged c =
-    let b = (goal.at.returns-in-Judged c).After-order_states-count in
-    finds_answer (sheet b) (accepted b) c.args.table.now (ordered b) (marked b) c.query_in_turn-answer.ensures c.in-Judged.is
+pub returns-in-Ok : goal.returns-in-Ok
+returns-in-Ok c =
+    let b = (goal.at.returns-in-Ok c).After-order_states-count in
+    finds_answer (sheet b) (accepted b) c.args.table.now (ordered b) (marked b) c.query_in_turn-answer.ensures c.in-Ok.is
     c.answer_passed.ensures
 
 pub returns-in-WrongCount : goal.returns-in-WrongCount

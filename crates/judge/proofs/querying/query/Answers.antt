@@ -1,13 +1,10 @@
 -- `judge::querying::query` meets its contract.
-use Rattle.std.proofs.Common.{sym, ◌∙◌}
+use Rattle.std.proofs.Common.{sym}
+use Rattle.std.proofs.lemmas.Result.{err_from_is_err_and}
 use Rattle.judge.proofs.Steps.QueryAnswers.{answers_refused}
 use Rattle.judge.proofs.querying.query.Goals as goal
 
-pub judge_accepted-requires : goal.judge_accepted-requires
-judge_accepted-requires c = sym c.check-checked.ensures.value ∙ c.in-Ok.is
-
-pub returns-in-Err : goal.returns-in-Err
-returns-in-Err c = answers_refused c.args.sheet.now c.args.state.0 c.args.table.now _ (sym c.check-checked.ensures.value ∙ c.in-Err.is)
-
-pub returns-in-Ok : goal.returns-in-Ok
-returns-in-Ok c = c.judge_accepted.ensures
+pub returns-in_err-check : goal.returns-in_err-check
+returns-in_err-check c =
+    let p = err_from_is_err_and c.from_residual.result c.from_residual.ensures.1 in
+    rw (p.1, p.2) (answers_refused c.args.sheet.now c.args.state.0 c.args.table.now _ (sym c.in_err-check.ensures.value))

@@ -1,12 +1,10 @@
 -- `judge::turns::query_in_turn` meets its contract.
-use Rattle.std.proofs.Common.{sym, ◌∙◌}
+use Rattle.std.proofs.Common.{sym}
+use Rattle.std.proofs.lemmas.Result.{err_from_is_err_and}
 use Rattle.judge.proofs.Steps.TurnAnswers.{in_turn_unread}
 use Rattle.judge.proofs.turns.query_in_turn.Goals as goal
 
-pub walk_accepted-requires : goal.walk_accepted-requires
-walk_accepted-requires c = sym c.check-checked.ensures.value ∙ c.in-Ok.is
-
-pub returns-in-Err : goal.returns-in-Err
-returns-in-Err c =
-    let start = c in
-    in_turn_unread start.args.sheet.now start.args.states.now start.args.table.now _ (sym c.check-checked.ensures.value ∙ c.in-Err.is)
+pub returns-in_err-check : goal.returns-in_err-check
+returns-in_err-check c =
+    let p = err_from_is_err_and c.from_residual.result c.from_residual.ensures.1 in
+    rw (p.1, p.2) (in_turn_unread c.args.sheet.now c.args.states.now c.args.table.now _ (sym c.in_err-check.ensures.value))

@@ -4,11 +4,11 @@ use native.Mathlib.Omega.{arith}
 use Rattle.plan_judge.proofs.Room.{program_queries, program_stops}
 use Rattle.plan_judge.proofs.judging.judge_start.Goals as goal
 
-pub returns-in-Done : goal.returns-in-Done
-returns-in-Done c =
+pub returns-in-Ok : goal.returns-in-Ok
+returns-in-Ok c =
     let told = c in
     let cleared = told in
-    program_queries cleared.args.sheet.now _ cleared.clear-cleared.ensures.1.1 (omega arith) (sym cleared.clear-cleared.ensures.0 ∙ told.in-Done.is) c.query.ensures.0
+    program_queries cleared.args.sheet.now _ cleared.clear-cleared.ensures.1.1 (omega arith) (sym cleared.clear-cleared.ensures.0 ∙ told.in-Ok.is) c.query.ensures.0
 
 pub returns-in-Refused : goal.returns-in-Refused
 returns-in-Refused c =

@@ -6,8 +6,8 @@ use Rattle.plan_judge.specs.Line.{line_of}
 use Rattle.plan_judge.proofs.Lines.{wrong_count_line, refused_line}
 use Rattle.plan_judge.proofs.line.put_line.Goals as goal
 
-pub returns-in-Judged : goal.returns-in-Judged
-returns-in-Judged c = record { prefix_len = (puts_counted c.args.out.now (ap line_of (sym c.in-Judged.is)) c.put_verdict.ensures).0; puts = (puts_counted c.args.out.now (ap line_of (sym c.in-Judged.is)) c.put_verdict.ensures).1 }
+pub returns-in-Ok : goal.returns-in-Ok
+returns-in-Ok c = record { prefix_len = (puts_counted c.args.out.now (ap line_of (sym c.in-Ok.is)) c.put_verdict.ensures).0; puts = (puts_counted c.args.out.now (ap line_of (sym c.in-Ok.is)) c.put_verdict.ensures).1 }
 
 pub returns-in-WrongCount : goal.returns-in-WrongCount
 returns-in-WrongCount c =

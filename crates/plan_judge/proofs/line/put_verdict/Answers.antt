@@ -1,6 +1,6 @@
 -- `plan_judge::line::put_verdict` meets its contract.
 use native.Mathlib.Omega.{arith}
-use Rattle.judge.specs.declared.Queried.TheVariants.{Judged}
+use Rattle.std.specs.Prelude.{Ok}
 use Rattle.text.specs.Decimal.{decimal_of}
 use Rattle.text.specs.Words.{space, line_feed}
 use Rattle.text.proofs.Placing.{placed_one, placed_next, placed_at_start}
@@ -18,4 +18,4 @@ returns c =
     let start = word in
     let spaced = placed_next space (placed_one (word.put_bool-after_word.ensures.value, word.put_bool-after_word.ensures.out_after)) (gap.put-after_gap.ensures.value, gap.put-after_gap.ensures.out_after) in
     let line = placed_next line_feed (placed_next (decimal_of start.args.visits) spaced (number.put_decimal-after_number.ensures.value, number.put_decimal-after_number.ensures.out_after)) (end.put.ensures.value, end.put.ensures.out_after) in
-    placed_at_start line (omega (arith, line_length_lem (Judged start.args.verdict start.args.visits), start.requires))
+    placed_at_start line (omega (arith, line_length_lem (Ok (record { verdict = start.args.verdict; visits = start.args.visits })), start.requires))

@@ -10,13 +10,13 @@ pub returns-then-out-lt-LEAST_OUTPUT : goal.returns-then-out-lt-LEAST_OUTPUT
 returns-then-out-lt-LEAST_OUTPUT c = let a = c.args in too_short a.sheet.now a.states.now a.table.now a.out.now (record { at = λ k. omega (arith, c.shared_slice_known-2-1.given k) }) c.if-states-gt-MOST_QUERIES.false c.if-out-lt-LEAST_OUTPUT.true c.refuse_short.ensures
 
 pub put_lines-tally-requires : goal.put_lines-tally-requires
-put_lines-tally-requires c = let a = c.args in lines_require a.sheet.now a.states.now a.table.now a.out.now (record { at = λ k. omega (arith, c.shared_slice_known-2-1.given k) }) c.if-states-gt-MOST_QUERIES.false c.if-out-lt-LEAST_OUTPUT.false c.clear-cleared.ensures.0 c.in-Done.is c.clear-cleared.ensures.1.1
+put_lines-tally-requires c = let a = c.args in lines_require a.sheet.now a.states.now a.table.now a.out.now (record { at = λ k. omega (arith, c.shared_slice_known-2-1.given k) }) c.if-states-gt-MOST_QUERIES.false c.if-out-lt-LEAST_OUTPUT.false c.clear-cleared.ensures.0 c.in-Ok.is c.clear-cleared.ensures.1.1
 
 pub put_total-requires : goal.put_total-requires
-put_total-requires c = let a = c.args in total_requires a.sheet.now a.states.now a.table.now a.out.now (record { at = λ k. omega (arith, c.shared_slice_known-2-1.given k) }) c.if-states-gt-MOST_QUERIES.false c.if-out-lt-LEAST_OUTPUT.false c.clear-cleared.ensures.0 c.in-Done.is c.clear-cleared.ensures.1.1 c.put_lines-tally.ensures
+put_total-requires c = let a = c.args in total_requires a.sheet.now a.states.now a.table.now a.out.now (record { at = λ k. omega (arith, c.shared_slice_known-2-1.given k) }) c.if-states-gt-MOST_QUERIES.false c.if-out-lt-LEAST_OUTPUT.false c.clear-cleared.ensures.0 c.in-Ok.is c.clear-cleared.ensures.1.1 c.put_lines-tally.ensures
 
-pub returns-in-Done : goal.returns-in-Done
-returns-in-Done c = let a = c.args in writes a.sheet.now a.states.now a.table.now a.out.now (record { at = λ k. omega (arith, c.shared_slice_known-2-1.given k) }) c.if-states-gt-MOST_QUERIES.false c.if-out-lt-LEAST_OUTPUT.false c.clear-cleared.ensures.0 c.in-Done.is c.clear-cleared.ensures.1.1 c.put_lines-tally.ensures c.put_total.ensures
+pub returns-in-Ok : goal.returns-in-Ok
+returns-in-Ok c = let a = c.args in writes a.sheet.now a.states.now a.table.now a.out.now (record { at = λ k. omega (arith, c.shared_slice_known-2-1.given k) }) c.if-states-gt-MOST_QUERIES.false c.if-out-lt-LEAST_OUTPUT.false c.clear-cleared.ensures.0 c.in-Ok.is c.clear-cleared.ensures.1.1 c.put_lines-tally.ensures c.put_total.ensures
 
 pub returns-in-Refused : goal.returns-in-Refused
 returns-in-Refused c = let a = c.args in clearing_refuses a.sheet.now a.states.now a.table.now a.out.now (record { at = λ k. omega (arith, c.shared_slice_known-2-1.given k) }) c.if-states-gt-MOST_QUERIES.false c.if-out-lt-LEAST_OUTPUT.false c.clear-cleared.ensures.0 c.in-Refused.is c.clear-cleared.ensures.1.1
