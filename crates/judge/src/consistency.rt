@@ -8,7 +8,8 @@ ghost use Rattle.judge.specs.Internal.Deciding.{DecideRequires, FollowRequires};
 ghost use Rattle.judge.specs.Internal.Auditing.{successors_hold, row_follows, mark_told, cell_passes, node_passes, state_passes, table_passes, shown_after, ShownToFollow, CellRequires, StateRequires, CellsRequires};
 
 use crate::index::{
-    Index, binder_of, kind_of, label_of, mask_of, target_of, transitions_begin, transitions_end, x_of, y_of,
+    Index, binder_of, kind_of, label_of, mask_of, target_of, transitions_begin, transitions_end,
+    x_of, y_of,
 };
 use crate::marks::{is_outer, opening};
 use crate::table::cell_position;

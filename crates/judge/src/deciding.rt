@@ -6,8 +6,8 @@ ghost use Rattle.judge.specs.Cells.{cell};
 ghost use Rattle.judge.specs.Internal.Deciding.{DecideRequires, Decided, FollowRequires, Followed};
 
 use crate::index::{
-    Index, binder_of, kind_of, label_of, mask_of, target_of, transitions_begin, transitions_end, x_of,
-    y_of,
+    Index, binder_of, kind_of, label_of, mask_of, target_of, transitions_begin, transitions_end,
+    x_of, y_of,
 };
 use crate::marks::{is_outer, opening};
 use crate::packed::{add_visits, decides, packed_constant};

@@ -7,8 +7,8 @@ ghost use Rattle.judge.specs.Querying.{Queries};
 ghost use Rattle.judge.specs.Internal.Judging.{TableRequires};
 
 use crate::deciding::decide;
-use crate::packed::{is_true, visits_of};
 use crate::index::Index;
+use crate::packed::{is_true, visits_of};
 use crate::preparing::{index_of, prepare};
 use crate::scanning::scan;
 use crate::table::{cell_bytes_prepared, number_at, put_number, table_bytes_for};

@@ -99,7 +99,8 @@ pub(crate) fn put_number(table: &mut [u8], at: usize, n: u32)
 pub(crate) fn cell_position(index: &Index, mark: u8, node: Node, state: State) -> usize
     ensures { result ≡ (state.0 * index.now.nodes + node.0) * index.now.marks + mark }
 {
-    (state.0 as usize * index.nodes as usize + node.0 as usize) * index.marks as usize + mark as usize
+    (state.0 as usize * index.nodes as usize + node.0 as usize) * index.marks as usize
+        + mark as usize
 }
 
 // What a filled byte says, with no visit.

@@ -59,10 +59,13 @@ module _ {s : List ℕ} {index : Index} {starts : List ℕ} (asked : StatesAsked
   -- of the rule the index says what it did
   pub states_told : {after : Index} → RuleTold s after → ExploredAll (plan_body s) index.plan after.plan starts true
       → Masks (plan_body s) (actions_body s) after.plan.actions after.masks → StatesTold s starts after true
-  states_told r x m = told refl r (λ u h. (x.free refl u h, record {
-    offset_is = r.headed.offset_is;
-    nodes_are = r.headed.nodes_are;
-    marks_are = r.headed.marks_are;
-    binders_are = r.headed.binders_are.filled;
-    states_are = λ v w. prepared_state s asked.accepted (x.reached refl u h v w) m;
-  }))
+  states_told r x m = told refl r (λ u h. (
+    x.free refl u h,
+    record {
+      offset_is = r.headed.offset_is;
+      nodes_are = r.headed.nodes_are;
+      marks_are = r.headed.marks_are;
+      binders_are = r.headed.binders_are.filled;
+      states_are = λ v w. prepared_state s asked.accepted (x.reached refl u h v w) m;
+    },
+  ))

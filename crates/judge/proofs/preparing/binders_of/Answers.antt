@@ -20,8 +20,12 @@ module _ (c : After-is_binder) (e : c.is_binder.result ≡ true) where
 
   one_of_six : c.loop-n.k < 6
   one_of_six =
-      omega (arith, passed_binder _ _ _ c.loop-n.invariant.1 among is,
-      binders_rise c.args.rule.now (c.loop-n.n + 1) (node_count c.args.rule.now) (omega (arith, among)), c.requires.few_binders)
+      omega (
+        arith,
+        passed_binder _ _ _ c.loop-n.invariant.1 among is,
+        binders_rise c.args.rule.now (c.loop-n.n + 1) (node_count c.args.rule.now) (omega (arith, among)),
+        c.requires.few_binders,
+      )
 
 pub bounds-binders-k : goal.bounds-binders-k
 bounds-binders-k c = one_of_six (goal.at.bounds-binders-k c).After-is_binder c.if-is_binder.true
@@ -36,11 +40,12 @@ loop-n-preserved c =
     elim c.if-is_binder.branch [
       | then-is_binder w ↦
           let e = w.if-is_binder.true in
-          rw (w.k-is, w.binders-is)
-          ( length-set c.loop-n.binders c.loop-n.k c.loop-n.n ∙ i.0,
+          rw (w.k-is, w.binders-is) (
+            length-set c.loop-n.binders c.loop-n.k c.loop-n.n ∙ i.0,
             passed_binder _ _ _ i.1 (among before e) (is before e),
             filled_more (λ k v. v ≡ binder_node c.args.rule.now k) c.loop-n.binders c.loop-n.k c.loop-n.n
-            (omega (arith, one_of_six before e, i.0)) i.2 (sym (binder_node_lem _ _ _ (binds _ _ _ i.1 (among before e) (is before e)))))
+                (omega (arith, one_of_six before e, i.0)) i.2 (sym (binder_node_lem _ _ _ (binds _ _ _ i.1 (among before e) (is before e)))),
+          )
       | else-is_binder w ↦
           rw (w.k-is, w.binders-is) (i.0, passed_other _ _ _ i.1 (sym c.is_binder.ensures ∙ w.if-is_binder.false), i.2)
     ]
