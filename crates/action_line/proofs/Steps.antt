@@ -1,10 +1,8 @@
 -- the tokens of a line
 pub mod Numbers
 pub mod Words
-pub mod Lexemes
 pub mod Capped
 -- what they say of the line
-pub mod Scanning
 pub mod Survey
 -- the entries that they make
 pub mod Reducing

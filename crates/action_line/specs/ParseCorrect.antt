@@ -7,8 +7,7 @@ use Rattle.calculus.specs.Decode.{action_formula}
 use Rattle.calculus.specs.Meaning.{meets}
 use Rattle.action_line.specs.Grammar.{Tree, formula_of, Mentions, Reading}
 use Rattle.action_line.specs.Entries.{entry_total, body_of}
-use Rattle.action_line.specs.Parsing.{reported_parse, Parses}
-use Rattle.action_line.specs.declared.Parsed.{Parsed}
+use Rattle.action_line.specs.Parsing.{Parsed, reported_parse, Parses}
 
 -- no "action not below A"
 pub record KnownActions (A : ℕ) (t : Tree) : Type 0 where

@@ -1,14 +1,18 @@
 -- The call of document 02 (e): "Read such a line for a given A (one byte)". What it answers and what it leaves in the output buffer, for
 -- every A, every list of bytes as line and every output.
-use Rattle.std.specs.Prelude.{ℕ, ◌≡◌, Bool, true, ◌&&◌, List, [], ◌++◌, length, drop, ltb, leb}
+use Rattle.std.specs.Prelude.{ℕ, ◌≡◌, Bool, true, ◌&&◌, List, [], ◌++◌, length, drop, ltb, leb, Result, Ok, Err}
 use Rattle.sheet.specs.Bytes.{pick}
 use Rattle.sheet.specs.Refusals.{number_of, place_of}
 use Rattle.sheet.specs.declared.Refusal.TheVariants as SheetRefusal
 use Rattle.action_line.specs.Grammar.{Tree, false_tree, true_tree, action_tree, or_tree, and_tree, not_tree}
 use Rattle.action_line.specs.Entries.{entry_total, body_of}
 use Rattle.action_line.specs.Reading.{LineReading, unreadable, readable, reading_of}
-use Rattle.action_line.specs.declared.Parsed.{Parsed}
-use Rattle.action_line.specs.declared.Parsed.TheVariants.{Wrote, Unreadable, UnknownAction, TooManyEntries, OutputShort}
+use Rattle.action_line.specs.declared.ParseError.{ParseError}
+use Rattle.action_line.specs.declared.ParseError.TheVariants.{Unreadable, UnknownAction, TooManyEntries, OutputShort}
+
+-- the length of the body that it wrote, or why it turned its input down
+abbrev pub Parsed : Type 0
+Parsed = Result ℕ ParseError
 
 -- no "action not below A"
 unfoldable pub actions_below : ℕ → Tree → Bool
@@ -23,12 +27,12 @@ actions_below A (not_tree t) = actions_below A t
 abbrev pub answer_tree : ℕ → Tree → ℕ → Parsed
 answer_tree A t room =
     pick (actions_below A t)
-    (pick (leb (entry_total t) 32) (pick (leb (length (body_of t)) room) (Wrote (length (body_of t))) OutputShort) TooManyEntries)
-    UnknownAction
+    (pick (leb (entry_total t) 32) (pick (leb (length (body_of t)) room) (Ok (length (body_of t))) (Err OutputShort)) (Err TooManyEntries))
+    (Err UnknownAction)
 
 -- "It refuses an unreadable line, the empty one included, with 32"
 abbrev pub answer_reading : ℕ → LineReading → ℕ → Parsed
-answer_reading A unreadable room = Unreadable
+answer_reading A unreadable room = Err Unreadable
 answer_reading A (readable t) room = answer_tree A t room
 
 -- what the call answers for every A, line and output of so many bytes
@@ -43,11 +47,8 @@ line_body (readable t) = body_of t
 -- the body at the front of the output; document 02 (c), "Here and in later requests": "output bytes past what is written stay unchanged";
 -- document 01: a refused call "changes no buffer"
 abbrev pub leaves : List ℕ → List ℕ → Parsed → List ℕ
-leaves body out (Wrote n) = body ++ drop n out
-leaves body out Unreadable = out
-leaves body out UnknownAction = out
-leaves body out TooManyEntries = out
-leaves body out OutputShort = out
+leaves body out (Ok n) = body ++ drop n out
+leaves body out (Err x) = out
 
 -- the output buffer after the call
 unfoldable pub output_after : ℕ → List ℕ → List ℕ → List ℕ
@@ -62,12 +63,12 @@ pub record ParseReport : Type 0 where
 -- document 01: "An accepted call gives number 0 and place 0."; on a refusal its number, "Other places are 0.", and "lengths and any further
 -- result number 0"
 abbrev pub reported_parse : Parsed → ParseReport
-reported_parse (Wrote n) = record { number = 0; place = 0; size = n }
-reported_parse Unreadable = record { number = 32; place = 0; size = 0 }
-reported_parse UnknownAction = record { number = 33; place = 0; size = 0 }
-reported_parse TooManyEntries = record { number = 34; place = 0; size = 0 }
+reported_parse (Ok n) = record { number = 0; place = 0; size = n }
+reported_parse (Err Unreadable) = record { number = 32; place = 0; size = 0 }
+reported_parse (Err UnknownAction) = record { number = 33; place = 0; size = 0 }
+reported_parse (Err TooManyEntries) = record { number = 34; place = 0; size = 0 }
 -- document 01: "22: output buffer too short (calls that write a sheet or a body)."
-reported_parse OutputShort = record { number = number_of SheetRefusal.OutputShort; place = place_of SheetRefusal.OutputShort; size = 0 }
+reported_parse (Err OutputShort) = record { number = number_of SheetRefusal.OutputShort; place = place_of SheetRefusal.OutputShort; size = 0 }
 
 -- what the call reports for every A, line and output
 abbrev pub parse_report_of : ℕ → List ℕ → ℕ → ParseReport

@@ -1,204 +1,191 @@
-// The entries of a line, made token by token in a buffer, from its second byte on. Operators wait in three arrays, the last on top, until their last
-// operand is made: their kinds, which are also how tightly they bind, the parentheses open where they stand, and the entries of their left operands.
-ghost use Rattle.std.specs.Prelude.{◌≡◌, List, ℕ, ◌+◌, ◌-◌, ◌*◌, ◌<◌, ◌≤◌, ◌^◌, length};
-ghost use Rattle.action_line.specs.Precedence.{reduce, shift, step, completed};
-ghost use Rattle.action_line.specs.Tokens.{or_word, close_parenthesis};
-ghost use Rattle.action_line.specs.Internal.Lexemes.{held};
-ghost use Rattle.action_line.specs.Entries.{word_count};
-ghost use Rattle.action_line.specs.Internal.Building.{made, put, put_at, operator_at, entries_in_place, stack_of, top_reducible, state_of, Room};
+// The entries of a line, made token by token from the second byte of a body on. Operators wait, the last on top, until their last operand is made.
+ghost use Rattle.std.specs.Prelude.{◌≡◌, ◌+◌, ◌-◌, ◌<◌, ◌≤◌, ◌^◌, IsTrue};
 
-use crate::{Progress, Token};
+use crate::{LONGEST_BODY, MOST_ENTRIES, Token};
 
-// The kinds of entries that operators make.
-pub(crate) const OR: u8 = 3;
-
-const AND: u8 = 4;
-
-const NOT: u8 = 5;
-
-// And those of numbers and constants.
+// The kinds of the entries of numbers and constants, as a body has them.
 const FALSE: u8 = 0;
 
 const TRUE: u8 = 1;
 
 const ACTION: u8 = 2;
 
-// The three bytes of entry e.
-fn put_entry(out: &mut [u8], e: usize, kind: u8, x: u8, y: u8)
-    requires { (e < 32) × (1 + 3 * (e + 1) ≤ length out.old) }
-    ensures { out.new ≡ put_at e kind x y out.old }
-{
-    out[1 + 3 * e] = kind;
-    out[2 + 3 * e] = x;
-    out[3 + 3 * e] = y;
+// An operator, by the kind of its entry, which is also how tightly it binds.
+#[derive(Clone, Copy, PartialEq, Eq, PartialOrd, Ord)]
+pub(crate) enum Operator {
+    Or = 3,
+    And = 4,
+    Not = 5,
 }
 
-// The number of the latest entry; 0 where none is made, as for a `not` at the start.
-fn latest(count: usize) -> u8
-    requires { count ≤ 32 }
-    ensures { result ≡ count - 1 }
-{
-    if count == 0 { 0 } else { (count - 1) as u8 }
+// An operator that waits, the parentheses open where it stands, and the entry of its left operand.
+#[derive(Clone, Copy)]
+pub(crate) struct Pending {
+    pub operator: Operator,
+    pub depth: usize,
+    pub left: u8,
 }
 
-// An operator's entry.
-fn put_operator(out: &mut [u8], e: usize, kind: u8, left: u8)
-    requires { (e < 32) × (1 + 3 * (e + 1) ≤ length out.old) }
-    ensures { out.new ≡ operator_at e kind left out.old }
-{
-    if kind == NOT {
-        put_entry(out, e, kind, latest(e), 0);
-        return;
+// The parentheses open, the operators that wait, and the body with the entries made.
+#[derive(Clone, Copy)]
+pub(crate) struct BodyBuilder {
+    pub depth: usize,
+    pub waiting: [Pending; MOST_ENTRIES],
+    pub top: usize,
+    pub made: [u8; LONGEST_BODY],
+    pub count: usize,
+    // Each entry is made or waits.
+    ghost few: { top + count ≤ 32 },
+}
+
+impl BodyBuilder {
+    ghost use Rattle.action_line.specs.Tokens.{close_parenthesis};
+    ghost use Rattle.action_line.specs.Precedence.{completed, ended, shift, step};
+    ghost use Rattle.action_line.specs.Entries.{word_count};
+    ghost use Rattle.action_line.specs.Internal.Lexemes.{held};
+    ghost use Rattle.action_line.specs.Internal.Building.{IsNew, kind_of, entries_in_place, top_reducible, reduced, combined, with_entry, with_operand, state_of};
+
+    pub(crate) fn new() -> Self
+        ensures { IsNew result }
+    {
+        BodyBuilder {
+            depth: 0,
+            waiting: [Pending {
+                operator: Operator::Or,
+                depth: 0,
+                left: 0,
+            }; MOST_ENTRIES],
+            top: 0,
+            made: [0; LONGEST_BODY],
+            count: 0,
+        }
     }
-    put_entry(out, e, kind, left, latest(e));
-}
 
-// The operator on top, if any waits, stands at this depth and binds at least so tightly.
-fn is_reducible(kind: u8, depth: usize, kinds: &[u8], depths: &[usize], waiting: usize) -> bool
-    requires { (waiting ≤ length kinds.now) × (waiting ≤ length depths.now) }
-    ensures { (lefts : List ℕ) → result ≡ top_reducible kind depth (stack_of kinds.now depths.now lefts waiting) }
-{
-    if waiting == 0 {
-        return false;
+    // The number of the latest entry; 0 where none is made, as for a `not` at the start.
+    fn latest(&self) -> u8
+        ensures { result ≡ self.now.count - 1 }
+    {
+        self.count.saturating_sub(1) as u8
     }
-    if depths[waiting - 1] != depth {
-        return false;
+
+    // The next entry.
+    fn put_entry(&mut self, kind: u8, x: u8, y: u8)
+        requires { self.old.top + self.old.count < 32 }
+        ensures state { state_of self.new ≡ with_entry kind x y (state_of self.old) }
+        ensures top { self.new.top ≡ self.old.top }
+    {
+        let at = 1 + 3 * self.count;
+        self.made[at] = kind;
+        self.made[at + 1] = x;
+        self.made[at + 2] = y;
+        self.count += 1;
     }
-    kind <= kinds[waiting - 1]
-}
 
-// Those on top that stand at this depth and bind at least so tightly get their last operand.
-pub(crate) fn reduce(
-    kind: u8,
-    kinds: &[u8],
-    depths: &[usize],
-    lefts: &[u8],
-    out: &mut [u8],
-    at: Progress,
-) -> Progress
-    requires { Room kinds.now depths.now lefts.now out.old at 0 }
-    ensures result_after { state_of kinds.now depths.now lefts.now out.new result ≡ reduce entries_in_place kind at.depth (stack_of kinds.now depths.now lefts.now at.waiting) (made at.count out.old) }
-    ensures depth_value { (result.depth ≡ at.depth) × (result.waiting + result.count ≡ at.waiting + at.count) }
-{
-    let mut top = at.waiting;
-    let mut count = at.count;
-    while is_reducible(kind, at.depth, kinds, depths, top) {
-        put_operator(out, count, kinds[top - 1], lefts[top - 1]);
-        top -= 1;
-        count += 1;
+    // An operator's entry.
+    fn put_operator(&mut self, operator: Operator, left: u8)
+        requires { self.old.top + self.old.count < 32 }
+        ensures state { state_of self.new ≡ combined (kind_of operator) left (state_of self.old) }
+        ensures top { self.new.top ≡ self.old.top }
+    {
+        let latest = self.latest();
+        if operator == Operator::Not {
+            self.put_entry(operator as u8, latest, 0);
+        } else {
+            self.put_entry(operator as u8, left, latest);
+        }
     }
-    Progress {
-        depth: at.depth,
-        waiting: top,
-        count: count,
+
+    // The operator on top, if any waits, stands at this depth and binds at least so tightly.
+    fn is_reducible(&self, operator: Operator) -> bool
+        ensures value { result ≡ top_reducible (kind_of operator) (state_of self.now) }
+        ensures some { IsTrue result → 0 < self.now.top }
+    {
+        if self.top == 0 {
+            return false;
+        }
+        let last = self.waiting[self.top - 1];
+        last.depth == self.depth && operator <= last.operator
     }
-}
 
-// An operand's entry; what binds tighter than `or` and waits for it gets it.
-fn put_operand(
-    kind: u8,
-    x: u8,
-    kinds: &[u8],
-    depths: &[usize],
-    lefts: &[u8],
-    out: &mut [u8],
-    at: Progress,
-) -> Progress
-    requires { Room kinds.now depths.now lefts.now out.old at 1 }
-    ensures { state_of kinds.now depths.now lefts.now out.new result ≡ completed entries_in_place at.depth (stack_of kinds.now depths.now lefts.now at.waiting) (put kind x 0 (made at.count out.old)) }
-{
-    put_entry(out, at.count, kind, x, 0);
-    let next = Progress {
-        depth: at.depth,
-        waiting: at.waiting,
-        count: at.count + 1,
-    };
-    reduce(AND, kinds, depths, lefts, out, next)
-}
-
-// An operator waits.
-fn shift(
-    kind: u8,
-    kinds: &mut [u8],
-    depths: &mut [usize],
-    lefts: &mut [u8],
-    at: Progress,
-) -> Progress
-    requires { (at.waiting < length kinds.old) × ((at.waiting < length depths.old) × ((at.waiting < length lefts.old) × (at.waiting + at.count < 32))) }
-    ensures { (out : List ℕ) → state_of kinds.new depths.new lefts.new out result ≡ shift entries_in_place kind (state_of kinds.old depths.old lefts.old out at) }
-{
-    let top = at.waiting;
-    kinds[top] = kind;
-    depths[top] = at.depth;
-    lefts[top] = latest(at.count);
-    Progress {
-        depth: at.depth,
-        waiting: top + 1,
-        count: at.count,
+    // Those on top that stand at this depth and bind at least so tightly get their last operand.
+    fn reduce(&mut self, operator: Operator)
+        ensures state { state_of self.new ≡ reduced (kind_of operator) (state_of self.old) }
+        ensures total { self.new.top + self.new.count ≡ self.old.top + self.old.count }
+        ensures depth { self.new.depth ≡ self.old.depth }
+    {
+        while self.is_reducible(operator) {
+            self.top -= 1;
+            let last = self.waiting[self.top];
+            self.put_operator(last.operator, last.left);
+        }
     }
-}
 
-// A parenthesis is closed: what it holds ends, and is an operand.
-fn close(kinds: &[u8], depths: &[usize], lefts: &[u8], out: &mut [u8], at: Progress) -> Progress
-    requires { Room kinds.now depths.now lefts.now out.old at 0 }
-    ensures { state_of kinds.now depths.now lefts.now out.new result ≡ step entries_in_place close_parenthesis (state_of kinds.now depths.now lefts.now out.old at) }
-{
-    let inner = reduce(OR, kinds, depths, lefts, out, at);
-    let outer = Progress {
-        depth: less_one(inner.depth),
-        waiting: inner.waiting,
-        count: inner.count,
-    };
-    reduce(AND, kinds, depths, lefts, out, outer)
-}
+    // An operand is complete: what binds tighter than `or` and waits for it gets it.
+    fn complete(&mut self)
+        ensures { state_of self.new ≡ completed entries_in_place self.old.depth (state_of self.old).stack (state_of self.old).made }
+    {
+        self.reduce(Operator::And);
+    }
 
-// The depth outside a parenthesis; 0 stays 0, which no readable line asks.
-fn less_one(depth: usize) -> usize
-    ensures { result ≡ depth - 1 }
-{
-    if depth == 0 { 0 } else { depth - 1 }
-}
+    // An operand's entry.
+    fn put_operand(&mut self, kind: u8, x: u8)
+        requires { self.old.top + self.old.count < 32 }
+        ensures { state_of self.new ≡ with_operand kind x (state_of self.old) }
+    {
+        self.put_entry(kind, x, 0);
+        self.complete();
+    }
 
-// An `or` ends what waits at its depth, and waits.
-fn shift_or(
-    kinds: &mut [u8],
-    depths: &mut [usize],
-    lefts: &mut [u8],
-    out: &mut [u8],
-    at: Progress,
-) -> Progress
-    requires { Room kinds.old depths.old lefts.old out.old at 1 }
-    ensures { state_of kinds.new depths.new lefts.new out.new result ≡ step entries_in_place or_word (state_of kinds.old depths.old lefts.old out.old at) }
-{
-    let ended = reduce(OR, kinds, depths, lefts, out, at);
-    shift(OR, kinds, depths, lefts, ended)
-}
+    // An operator waits.
+    fn shift(&mut self, operator: Operator)
+        requires { self.old.top + self.old.count < 32 }
+        ensures { state_of self.new ≡ shift entries_in_place (kind_of operator) (state_of self.old) }
+    {
+        self.waiting[self.top] = Pending {
+            operator,
+            depth: self.depth,
+            left: self.latest(),
+        };
+        self.top += 1;
+    }
 
-// One token.
-pub(crate) fn step(
-    token: Token,
-    kinds: &mut [u8],
-    depths: &mut [usize],
-    lefts: &mut [u8],
-    out: &mut [u8],
-    at: Progress,
-) -> Progress
-    requires { Room kinds.old depths.old lefts.old out.old at (word_count (held token)) × (at.depth + 1 < 2 ^ 64) }
-    ensures { state_of kinds.new depths.new lefts.new out.new result ≡ step entries_in_place (held token) (state_of kinds.old depths.old lefts.old out.old at) }
-{
-    match token {
-        Token::Number(n) => put_operand(ACTION, n, kinds, depths, lefts, out, at),
-        Token::True => put_operand(TRUE, 0, kinds, depths, lefts, out, at),
-        Token::False => put_operand(FALSE, 0, kinds, depths, lefts, out, at),
-        Token::Not => shift(NOT, kinds, depths, lefts, at),
-        Token::And => shift(AND, kinds, depths, lefts, at),
-        Token::Or => shift_or(kinds, depths, lefts, out, at),
-        Token::Open => Progress {
-            depth: at.depth + 1,
-            waiting: at.waiting,
-            count: at.count,
-        },
-        Token::Close => close(kinds, depths, lefts, out, at),
-        Token::Invalid => at,
+    // A parenthesis is closed: what it holds ends, and is an operand. No readable line closes more than are open.
+    fn close(&mut self)
+        ensures { state_of self.new ≡ step entries_in_place close_parenthesis (state_of self.old) }
+    {
+        self.end();
+        self.depth = self.depth.saturating_sub(1);
+        self.complete();
+    }
+
+    // What waits at this depth ends.
+    pub(crate) fn end(&mut self)
+        ensures state { state_of self.new ≡ ended entries_in_place (state_of self.old) }
+        ensures total { self.new.top + self.new.count ≡ self.old.top + self.old.count }
+        ensures depth { self.new.depth ≡ self.old.depth }
+    {
+        self.reduce(Operator::Or);
+    }
+
+    // One token.
+    pub(crate) fn step(&mut self, token: Token)
+        requires room { self.old.top + self.old.count + word_count (held token) ≤ 32 }
+        requires shallow { self.old.depth + 1 < 2 ^ 64 }
+        ensures { state_of self.new ≡ step entries_in_place (held token) (state_of self.old) }
+    {
+        match token {
+            Token::Number(n) => self.put_operand(ACTION, n),
+            Token::True => self.put_operand(TRUE, 0),
+            Token::False => self.put_operand(FALSE, 0),
+            Token::Not => self.shift(Operator::Not),
+            Token::And => self.shift(Operator::And),
+            Token::Or => {
+                self.end();
+                self.shift(Operator::Or);
+            }
+            Token::Open => self.depth += 1,
+            Token::Close => self.close(),
+            Token::Invalid => {}
+        }
     }
 }

@@ -1,61 +1,38 @@
 // The tokens of a line, one at a time: letters and digits with no other byte between them are one token.
-ghost use Rattle.std.specs.Prelude.{◌≡◌, false, true, ◌||◌, ◌+◌, ◌-◌, ◌*◌, ◌<◌, ◌≤◌, length, get_or};
+ghost use Rattle.std.specs.Prelude.{◌≡◌, ◌==◌, false, true, ◌<◌, ◌≤◌, length, get_or};
+ghost use Rattle.std.specs.List.{prefix_len};
 ghost use Rattle.text.specs.Numerals.{is_digit};
-ghost use Rattle.action_line.specs.Tokens.{is_letter};
 ghost use Rattle.action_line.specs.Lexing.{token_of};
-ghost use Rattle.action_line.specs.Internal.Lexemes.{at_most, leading_zero, capped, held, WordEnds, LexemeAt};
+ghost use Rattle.action_line.specs.Internal.Lexemes.{is_word_byte, leading_zero, capped, held};
 
-use crate::{Lexeme, Token};
-
-fn is_digit(b: u8) -> bool
-    ensures { result ≡ is_digit b }
-{
-    b'0' <= b && b <= b'9'
-}
-
-fn is_letter(b: u8) -> bool
-    ensures { result ≡ is_letter b }
-{
-    b'a' <= b && b <= b'z'
-}
+use crate::Token;
 
 fn is_word_byte(b: u8) -> bool
-    ensures { result ≡ is_digit b || is_letter b }
+    ensures { result ≡ is_word_byte b }
 {
-    is_digit(b) || is_letter(b)
+    b.is_ascii_digit() || b.is_ascii_lowercase()
 }
 
-// The place behind the letters and digits that begin here.
-fn word_end(line: &[u8], at: usize) -> usize
-    requires { (at < length line.now) × ((is_digit (get_or line.now at 0) || is_letter (get_or line.now at 0)) ≡ true) }
-    ensures { WordEnds line.now at result }
+// How many letters and digits are at the front.
+fn word_length(line: &[u8]) -> usize
+    ensures value { result ≡ prefix_len is_word_byte line.now }
+    ensures within { result ≤ length line.now }
 {
-    let mut end = at + 1;
-    while end < line.len() {
-        if !is_word_byte(line[end]) {
-            return end;
-        }
-        end += 1;
-    }
-    end
+    line.iter().take_while(|b| is_word_byte(**b)).count()
 }
 
-// The number with one more digit, as it is held.
-fn with_digit(value: u8, digit: u8) -> u8
-    requires { 48 ≤ digit }
-    ensures { result ≡ at_most 255 (10 * value + (digit - 48)) }
+// How many spaces are at the front.
+fn space_length(line: &[u8]) -> usize
+    ensures value { result ≡ prefix_len (λ b. b == 32) line.now }
+    ensures within { result ≤ length line.now }
 {
-    let next = 10 * (value as u16) + (digit - b'0') as u16;
-    if next < 255 { next as u8 } else { 255 }
+    line.iter().take_while(|b| **b == b' ').count()
 }
 
 fn has_leading_zero(word: &[u8]) -> bool
     ensures { result ≡ leading_zero word.now }
 {
-    if word.len() < 2 {
-        return false;
-    }
-    word[0] == b'0'
+    1 < word.len() && word[0] == b'0'
 }
 
 // A word that begins with a digit is a number, or invalid.
@@ -67,14 +44,11 @@ fn number(word: &[u8]) -> Token
         return Token::Invalid;
     }
     let mut value: u8 = 0;
-    let mut at: usize = 0;
-    while at < word.len() {
-        let digit = word[at];
-        if !is_digit(digit) {
+    for digit in word {
+        if !digit.is_ascii_digit() {
             return Token::Invalid;
         }
-        value = with_digit(value, digit);
-        at += 1;
+        value = value.saturating_mul(10).saturating_add(*digit - b'0');
     }
     Token::Number(value)
 }
@@ -84,61 +58,72 @@ fn keyword(word: &[u8]) -> Token
     requires { (0 < length word.now) × (is_digit (get_or word.now 0 0) ≡ false) }
     ensures { held result ≡ capped (token_of word.now) }
 {
-    if text::same(word, b"true") {
-        return Token::True;
+    if word == b"true".as_slice() {
+        Token::True
+    } else if word == b"false".as_slice() {
+        Token::False
+    } else if word == b"not".as_slice() {
+        Token::Not
+    } else if word == b"and".as_slice() {
+        Token::And
+    } else if word == b"or".as_slice() {
+        Token::Or
+    } else {
+        Token::Invalid
     }
-    if text::same(word, b"false") {
-        return Token::False;
-    }
-    if text::same(word, b"not") {
-        return Token::Not;
-    }
-    if text::same(word, b"and") {
-        return Token::And;
-    }
-    if text::same(word, b"or") {
-        return Token::Or;
-    }
-    Token::Invalid
 }
 
 fn token_of(word: &[u8]) -> Token
     requires { 0 < length word.now }
     ensures { held result ≡ capped (token_of word.now) }
 {
-    if is_digit(word[0]) {
-        return number(word);
+    if word[0].is_ascii_digit() {
+        number(word)
+    } else {
+        keyword(word)
     }
-    keyword(word)
 }
 
-// The token that begins here, which is not a space.
-pub(crate) fn lexeme_at(line: &[u8], at: usize) -> Lexeme
-    requires { (at < length line.now) × (get_or line.now at 0 ≡ 32 → ⊥) }
-    ensures { LexemeAt line.now at result }
-{
-    let b = line[at];
-    if is_word_byte(b) {
-        let end = word_end(line, at);
-        return Lexeme {
-            token: token_of(&line[at..end]),
-            end: end,
-        };
+// The tokens of the bytes that are left.
+#[derive(Clone, Copy)]
+pub(crate) struct Tokens<'a> {
+    pub rest: &'a [u8],
+}
+
+impl<'a> Tokens<'a> {
+    ghost use Rattle.action_line.specs.Internal.Lexemes.{tokens_held, tokens_left};
+
+    pub(crate) fn of(line: &'a [u8]) -> Tokens<'a>
+        ensures { tokens_left result ≡ tokens_held line.now }
+    {
+        Tokens { rest: line }
     }
-    if b == b'(' {
-        return Lexeme {
-            token: Token::Open,
-            end: at + 1,
-        };
-    }
-    if b == b')' {
-        return Lexeme {
-            token: Token::Close,
-            end: at + 1,
-        };
-    }
-    Lexeme {
-        token: Token::Invalid,
-        end: at + 1,
+}
+
+impl<'a> Iterator for Tokens<'a> {
+    ghost use Rattle.std.specs.Iterator.{YieldsFirstBy, item_count};
+    ghost use Rattle.action_line.specs.Internal.Lexemes.{tokens_left};
+
+    type Item = Token;
+
+    ghost next_gives = { YieldsFirstBy held tokens_left };
+
+    ghost remaining = { item_count tokens_left };
+
+    fn next(&mut self) -> Option<Token> {
+        let spaces = space_length(self.rest);
+        let (_, line) = self.rest.split_at(spaces);
+        let (first, behind) = line.split_first()?;
+        if is_word_byte(*first) {
+            let (word, behind) = line.split_at(word_length(line));
+            self.rest = behind;
+            return Some(token_of(word));
+        }
+        self.rest = behind;
+        match *first {
+            b'(' => Some(Token::Open),
+            b')' => Some(Token::Close),
+            _ => Some(Token::Invalid),
+        }
     }
 }

@@ -11,11 +11,7 @@ mod lexer;
 pub mod parsing;
 mod pass;
 
-ghost use Rattle.std.specs.Prelude.{◌≡◌};
-ghost use Rattle.action_line.specs.Parsing.{reported_parse};
-
 use sheet::{Numbered, Refusal};
-
 // The most entries that an action table may have, and the bytes of the longest body.
 const MOST_ENTRIES: usize = 32;
 
@@ -35,84 +31,34 @@ pub(crate) enum Token {
     Invalid,
 }
 
-// A token, and the place behind it.
-#[derive(Clone, Copy)]
-pub(crate) struct Lexeme {
-    pub token: Token,
-    pub end: usize,
-}
-
-// What the line can go on with, and how many parentheses are open.
-#[derive(Clone, Copy)]
-pub(crate) enum Expected {
-    Operand(usize),
-    Operator(usize),
-    Failed,
-}
-
-// What the pass over a line finds out: the number of entries of a readable line whose actions are known.
-#[derive(Clone, Copy)]
-pub(crate) enum Outline {
-    Unreadable,
-    UnknownAction,
-    Entries(usize),
-}
-
-// How far the entries are made: parentheses open, operators that wait, entries.
-#[derive(Clone, Copy)]
-pub(crate) struct Progress {
-    pub depth: usize,
-    pub waiting: usize,
-    pub count: usize,
-}
-
-// What the parser answers: the length of the body that it wrote, or why it turned its input down.
-#[derive(Clone, Copy)]
-pub enum Parsed {
-    Wrote(usize),
+// Why the parser turns its input down.
+#[derive(Clone, Copy, Debug, PartialEq, Eq)]
+pub enum ParseError {
     Unreadable,
     UnknownAction,
     TooManyEntries,
     OutputShort,
 }
 
-impl Parsed {
-    // Its number: 0, 32, 33, 34 or 22.
-    pub fn number(self) -> u8
-        ensures { result ≡ (reported_parse self).number }
-    {
+// Its number is 32, 33, 34 or that of the sheet's refusal; it names no place.
+impl Numbered for ParseError {
+    ghost use Rattle.std.specs.Prelude.{Err};
+    ghost use Rattle.action_line.specs.Parsing.{reported_parse};
+
+    ghost number = { λ e. (reported_parse (Err e)).number };
+
+    ghost place = { λ e. (reported_parse (Err e)).place };
+
+    fn number(&self) -> u8 {
         match self {
-            Parsed::Wrote(_) => 0,
-            Parsed::Unreadable => 32,
-            Parsed::UnknownAction => 33,
-            Parsed::TooManyEntries => 34,
-            Parsed::OutputShort => Refusal::OutputShort.number(),
+            ParseError::Unreadable => 32,
+            ParseError::UnknownAction => 33,
+            ParseError::TooManyEntries => 34,
+            ParseError::OutputShort => Refusal::OutputShort.number(),
         }
     }
 
-    // The place of the refusal, which is always 0.
-    pub fn place(self) -> u16
-        ensures { result ≡ (reported_parse self).place }
-    {
-        match self {
-            Parsed::Wrote(_) => 0,
-            Parsed::Unreadable => 0,
-            Parsed::UnknownAction => 0,
-            Parsed::TooManyEntries => 0,
-            Parsed::OutputShort => Refusal::OutputShort.place(),
-        }
-    }
-
-    // The length of the body written, or 0.
-    pub fn length(self) -> usize
-        ensures { result ≡ (reported_parse self).size }
-    {
-        match self {
-            Parsed::Wrote(n) => n,
-            Parsed::Unreadable => 0,
-            Parsed::UnknownAction => 0,
-            Parsed::TooManyEntries => 0,
-            Parsed::OutputShort => 0,
-        }
+    fn place(&self) -> u16 {
+        0
     }
 }

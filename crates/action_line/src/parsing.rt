@@ -3,65 +3,35 @@ ghost use Rattle.std.specs.Prelude.{◌≡◌, length};
 ghost use Rattle.action_line.specs.Parsing.{Parses};
 ghost use Rattle.action_line.specs.Internal.Answering.{BodyWritten};
 
+use crate::builder::BodyBuilder;
 use crate::pass::pass_over;
-use crate::{LONGEST_BODY, MOST_ENTRIES, Outline, Parsed};
-
-// 32 zeros; a function of its own, so that proofs know the length alone.
-fn zero_bytes() -> [u8; MOST_ENTRIES]
-    ensures { length result ≡ 32 }
-{
-    [0; MOST_ENTRIES]
-}
-
-fn zero_depths() -> [usize; MOST_ENTRIES]
-    ensures { length result ≡ 32 }
-{
-    [0; MOST_ENTRIES]
-}
-
-// Room for the longest body.
-fn zero_body() -> [u8; LONGEST_BODY]
-    ensures { length result ≡ 97 }
-{
-    [0; LONGEST_BODY]
-}
+use crate::{LONGEST_BODY, MOST_ENTRIES, ParseError};
 
 // So many entries, which stand in made from byte 1 on, at the front of out as a body.
-fn write_body(made: &[u8], entries: usize, out: &mut [u8]) -> Parsed
-    requires { length made.now ≡ 97 }
+fn write_body(
+    made: &[u8; LONGEST_BODY],
+    entries: usize,
+    out: &mut [u8],
+) -> Result<usize, ParseError>
     ensures { BodyWritten made.now entries out.old result out.new }
 {
     if MOST_ENTRIES < entries {
-        return Parsed::TooManyEntries;
+        return Err(ParseError::TooManyEntries);
     }
     let length = 1 + 3 * entries;
     if out.len() < length {
-        return Parsed::OutputShort;
+        return Err(ParseError::OutputShort);
     }
     out[..length].copy_from_slice(&made[..length]);
     out[0] = entries as u8;
-    Parsed::Wrote(length)
+    Ok(length)
 }
 
 // The kind 2 body of the line for so many actions, at the front of out, and its length; or the refusal, with out unchanged.
-pub fn parse(actions: u8, line: &[u8], out: &mut [u8]) -> Parsed
+pub fn parse(actions: u8, line: &[u8], out: &mut [u8]) -> Result<usize, ParseError>
     ensures { Parses actions line.now out.old result out.new }
 {
-    let mut kinds = zero_bytes();
-    let mut depths = zero_depths();
-    let mut lefts = zero_bytes();
-    let mut made = zero_body();
-    let found = pass_over(
-        line,
-        actions,
-        &mut kinds,
-        &mut depths,
-        &mut lefts,
-        &mut made,
-    );
-    match found {
-        Outline::Unreadable => Parsed::Unreadable,
-        Outline::UnknownAction => Parsed::UnknownAction,
-        Outline::Entries(n) => write_body(&made, n, out),
-    }
+    let mut builder = BodyBuilder::new();
+    let entries = pass_over(line, actions, &mut builder)?;
+    write_body(&builder.made, entries, out)
 }

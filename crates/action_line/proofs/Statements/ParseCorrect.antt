@@ -11,10 +11,10 @@ use lib.Seq.{take_at}
 use Rattle.action_line.specs.Grammar.{Tree, Mentions, Reading}
 use Rattle.action_line.specs.Entries.{entry_total, body_of}
 use Rattle.action_line.specs.Reading.{LineReading, unreadable, readable, reading_of}
-use Rattle.action_line.specs.Parsing.{actions_below, reported_parse, Parses}
+use Rattle.action_line.specs.Parsing.{Parsed, actions_below, reported_parse, Parses}
 use Rattle.action_line.specs.ParseCorrect.{KnownActions, RefusedWith, AcceptedWith, MeansTree, ParseCorrect}
-use Rattle.action_line.specs.declared.Parsed.{Parsed}
-use Rattle.action_line.specs.declared.Parsed.TheVariants.{Wrote, Unreadable, UnknownAction, TooManyEntries, OutputShort}
+use Rattle.action_line.specs.declared.ParseError.TheVariants.{Unreadable, UnknownAction, TooManyEntries, OutputShort}
+use Rattle.std.proofs.Common.{Ok, Err}
 use Rattle.action_line.proofs.Reading.Readings.{readings_exactly}
 use Rattle.action_line.proofs.Body.Totals.{below_known, unknown_mentioned}
 use Rattle.action_line.proofs.Body.Decoding.{means_tree}
@@ -79,35 +79,35 @@ module _ (A : ℕ) (line out : List ℕ) where
 
   refuses : {k : ℕ} → RefusedWith A line (length out) k → Refuses k
   refuses (RefusedWith.no_reading none) =
-      record { answer = Unreadable; parses = answers_unreadable A line out (no_reading (reading_of line) refl); number_is = refl; size_none = refl }
+      record { answer = Err Unreadable; parses = answers_unreadable A line out (no_reading (reading_of line) refl); number_is = refl; size_none = refl }
     where
       no_reading : (r : LineReading) → reading_of line ≡ r → reading_of line ≡ unreadable
       no_reading unreadable q = q
       no_reading (readable t) q = absurd (none t ((readings_exactly line t).0 q))
   refuses (RefusedWith.unknown_action t a r m l) =
       record {
-        answer = UnknownAction;
+        answer = Err UnknownAction;
         parses = answers_unknown A line out ((readings_exactly line t).1 r) (unknown_above A t a m l);
         number_is = refl;
         size_none = refl;
       }
   refuses (RefusedWith.many_entries t r k l) =
       record {
-        answer = TooManyEntries;
+        answer = Err TooManyEntries;
         parses = answers_many A line out ((readings_exactly line t).1 r) (known_below A t k) l;
         number_is = refl;
         size_none = refl;
       }
   refuses (RefusedWith.output_short t r k few l) =
       record {
-        answer = OutputShort;
+        answer = Err OutputShort;
         parses = answers_short A line out ((readings_exactly line t).1 r) (known_below A t k) few l;
         number_is = refl;
         size_none = refl;
       }
 
   writes : (t : Tree) → AcceptedWith A line (length out) t
-      → Parses A line out (Wrote (length (body_of t))) (body_of t ++ drop (length (body_of t)) out)
+      → Parses A line out (Ok (length (body_of t))) (body_of t ++ drop (length (body_of t)) out)
   writes t a =
       answers_wrote A line out ((readings_exactly line t).1 a.reading) (known_below A t a.known) a.few_entries a.room_enough
 
@@ -118,7 +118,7 @@ module _ (A : ℕ) (line out : List ℕ) where
     given : {k : ℕ} → RefusedWith A line (length out) k → (reported_parse answer).number ≡ k
     given r = let w = refuses r in ap (λ (x : Parsed). (reported_parse x).number) (same_answer w.parses).0 ∙ w.number_is
 
-    written : (t : Tree) → AcceptedWith A line (length out) t → answer ≡ Wrote (length (body_of t))
+    written : (t : Tree) → AcceptedWith A line (length out) t → answer ≡ Ok (length (body_of t))
     written t a = (same_answer (writes t a)).0
 
     none_given : (t : Tree) → AcceptedWith A line (length out) t → (reported_parse answer).number ≡ 0
@@ -152,11 +152,11 @@ module _ (A : ℕ) (line out : List ℕ) where
     refused h (inr (t, a)) = absurd (h (none_given t a))
 
 place_none : (answer : Parsed) → (reported_parse answer).place ≡ 0
-place_none (Wrote n) = refl
-place_none Unreadable = refl
-place_none UnknownAction = refl
-place_none TooManyEntries = refl
-place_none OutputShort = refl
+place_none (Ok n) = refl
+place_none (Err Unreadable) = refl
+place_none (Err UnknownAction) = refl
+place_none (Err TooManyEntries) = refl
+place_none (Err OutputShort) = refl
 
 pub parse_correct : ParseCorrect
 parse_correct A line out answer out' p =

@@ -1,23 +1,18 @@
 -- The entries that the pass over a line makes.
-use Prim.Native.Nat.{ℕ, zero, suc, ◌+◌, ◌-◌, ◌<◌, ◌≤◌}
+use Prim.Native.Nat.{ℕ, zero, suc, ◌+◌, ◌-◌, ◌≤◌}
 use mathlib.Core.Path.{◌≡◌, refl, sym, ap, ◌∙◌}
 use mathlib.Core.Bool.{Bool, true, false}
 use mathlib.Core.List.{List, [], ◌∷◌}
 use native.Mathlib.Omega.{arith}
-use lib.ListN.{length, get_or, drop_of_length-le}
+use lib.ListN.{length}
 use Rattle.sheet.specs.Bytes.{pick}
 use Rattle.action_line.specs.Tokens.{Token, number, true_word, false_word, not_word, and_word, or_word, open_parenthesis, close_parenthesis}
 use Rattle.action_line.specs.Tokens.{invalid}
-use Rattle.action_line.specs.Lexing.{lex_after}
-use Rattle.action_line.specs.Precedence.{or_kind, and_kind, Waiting, ParserState, reducible, reduce, ended, step, run}
-use Rattle.action_line.specs.Internal.Lexemes.{all_capped, held, tokens_from, LexemeAt}
+use Rattle.action_line.specs.Precedence.{or_kind, and_kind, Waiting, ParserState, reducible, reduce, ended, step, run, built_from}
 use Rattle.action_line.specs.Entries.{word_count}
-use Rattle.action_line.specs.Internal.Building.{Made, made, entries_in_place, stack_of, state_of, Room, built_in}
-use Rattle.action_line.specs.Internal.Passing.{RoomForAll}
-use Rattle.action_line.specs.declared.Lexeme.{Lexeme}
-use Rattle.action_line.specs.declared.Progress.{Progress}
-use Rattle.action_line.proofs.Steps.Words.{space_here}
-use Rattle.action_line.proofs.Steps.Lexemes.{passed_over}
+use Rattle.action_line.specs.Internal.Building.{Made, made, entries_in_place, stack_of, state_of, IsNew}
+use Rattle.action_line.specs.declared.builder.BodyBuilder.{BodyBuilder}
+use Rattle.action_line.specs.declared.builder.Pending.{Pending}
 
 -- ---- operators that wait and entries together: one for each number and word
 
@@ -59,72 +54,52 @@ step_keeps close_parenthesis s =
     (h.0 ∙ k.0 ∙ omega arith, omega (arith, k.1, h.1))
 step_keeps invalid s = (omega arith, omega arith)
 
-stack_length : (kinds depths lefts : List ℕ) (n : ℕ) → length (stack_of kinds depths lefts n) ≡ n
+stack_length : (waiting : List Pending) (n : ℕ) → length (stack_of waiting n) ≡ n
 unfolding stack_of
-stack_length kinds depths lefts zero = refl
-stack_length kinds depths lefts (suc n) = ap suc (stack_length kinds depths lefts n)
+stack_length waiting zero = refl
+stack_length waiting (suc n) = ap suc (stack_length waiting n)
 
 -- ---- the loop
 
 abbrev start : List ℕ → ParserState ℕ Made
 start out = record { depth = 0; stack = []; made = made 0 out }
 
--- so many entries are made or wait, and what the rest of the line makes of them is what the whole line makes
-pub record Continues (line made₀ kinds depths lefts made' : List ℕ) (p : Progress) (n at : ℕ) : Type 0 where
-  pub runs : run entries_in_place (tokens_from line at) (state_of kinds depths lefts made' p) ≡ run entries_in_place (tokens_from line 0) (start made₀)
-  pub counted : p.waiting + p.count ≡ n
-  -- no more parentheses than bytes
-  pub shallow : p.depth ≤ at
+-- So many entries are made or wait, and what the tokens to come make of them is what all tokens make.
+pub record Continues (all : List Token) (made₀ : List ℕ) (b : BodyBuilder) (n : ℕ) (ts : List Token) : Type 0 where
+  pub runs : run entries_in_place ts (state_of b) ≡ run entries_in_place all (start made₀)
+  pub counted : b.top + b.count ≡ n
+  -- no more parentheses than tokens
+  pub shallow : b.depth + length ts ≤ length all
 
-pub build_starts : (line kinds depths lefts made' : List ℕ)
-    → Continues line made' kinds depths lefts made' (record { depth = 0; waiting = 0; count = 0 }) 0 0
+pub build_starts : (all : List Token) (b : BodyBuilder) → IsNew b → Continues all b.made b 0 all
 unfolding stack_of
-build_starts line kinds depths lefts made' = record { runs = refl; counted = omega arith; shallow = omega arith }
+build_starts all b h =
+    record {
+      runs =
+          ap (run entries_in_place all)
+          (λ i. record { depth = h.depth_none i; stack = stack_of b.waiting (h.none_waiting i); made = made (h.none_made i) b.made });
+      counted = omega (arith, h.none_waiting, h.none_made);
+      shallow = omega (arith, h.depth_none);
+    }
 
-module _ {line made₀ kinds depths lefts made' : List ℕ} {p : Progress} {n at : ℕ} (s : Continues line made₀ kinds depths lefts made' p n at) where
-  pub build_over_space : at < length line → get_or line at 0 ≡ 32 → Continues line made₀ kinds depths lefts made' p n (at + 1)
-  build_over_space l q =
-      let e = passed_over line at (at + 1) (space_here line at l (rw q refl) q) in
-      record {
-        runs = ap (λ (ts : List Token). run entries_in_place ts (state_of kinds depths lefts made' p)) (sym e) ∙ s.runs;
-        counted = s.counted;
-        shallow = omega (arith, s.shallow);
-      }
-
-  pub room_for : RoomForAll kinds depths lefts made' → (k : ℕ) → n + k ≤ 32 → Room kinds depths lefts made' p k
-  room_for b k l =
-      record {
-        kinds_room = b.kinds_room;
-        depths_room = b.depths_room;
-        lefts_room = b.lefts_room;
-        few = omega (arith, s.counted);
-        output_room = omega (arith, s.counted, b.made_room);
-      }
-
-  pub build_over_token : {r : Lexeme} → LexemeAt line at r → (kinds' depths' lefts' made'' : List ℕ) (p' : Progress) (n' : ℕ)
-      → n' ≡ n + word_count (held r.token)
-      → state_of kinds' depths' lefts' made'' p' ≡ step entries_in_place (held r.token) (state_of kinds depths lefts made' p)
-      → Continues line made₀ kinds' depths' lefts' made'' p' n' r.end
+module _ (all : List Token) (made₀ : List ℕ) where
+  pub build_over_token : {b b' : BodyBuilder} {n n' : ℕ} {t : Token} {ts us : List Token} → Continues all made₀ b n us → us ≡ t ∷ ts
+      → n' ≡ n + word_count t → state_of b' ≡ step entries_in_place t (state_of b) → Continues all made₀ b' n' ts
   unfolding run
-  build_over_token {r} x kinds' depths' lefts' made'' p' n' m e =
-      let t = held r.token in
-      let ts = tokens_from line r.end in
-      let z = step_keeps t (state_of kinds depths lefts made' p) in
-      let h : p'.depth ≡ (step entries_in_place t (state_of kinds depths lefts made' p)).depth = ap (λ (s : ParserState ℕ Made). s.depth) e in
+  build_over_token {b} {b'} {t = t} {ts} {us} s y m e =
+      let z = step_keeps t (state_of b) in
+      let h : b'.depth ≡ (step entries_in_place t (state_of b)).depth = ap (λ (s : ParserState ℕ Made). s.depth) e in
+      let l : length us ≡ suc (length ts) = ap length y in
       record {
         runs =
-            ap (run entries_in_place ts) e ∙ ap (λ (us : List Token). run entries_in_place us (state_of kinds depths lefts made' p)) (sym x.tokens)
-            ∙ s.runs;
+            ap (run entries_in_place ts) e ∙ ap (λ (vs : List Token). run entries_in_place vs (state_of b)) (sym y) ∙ s.runs;
         counted =
-            omega (arith, m, s.counted, ap weight e, z.0, stack_length kinds depths lefts p.waiting, stack_length kinds' depths' lefts' p'.waiting);
-        shallow = omega (arith, h, z.1, s.shallow, x.further);
+            omega (arith, m, s.counted, ap weight e, z.0, stack_length b.waiting b.top, stack_length b'.waiting b'.top);
+        shallow = omega (arith, h, z.1, s.shallow);
       }
 
-  pub build_ends : (made'' : List ℕ) (p' : Progress) → length line ≤ at
-      → state_of kinds depths lefts made'' p' ≡ ended entries_in_place (state_of kinds depths lefts made' p)
-      → made'' ≡ (built_in line made₀).bytes
-  unfolding run all_capped lex_after
-  build_ends made'' p' l e =
-      let none = drop_of_length-le line l in
-      let q = rw none at s.runs in
-      ap (λ (s : ParserState ℕ Made). s.made.bytes) e ∙ ap (λ (s : ParserState ℕ Made). (ended entries_in_place s).made.bytes) q
+  pub build_ends : {b : BodyBuilder} {n : ℕ} (b' : BodyBuilder) → Continues all made₀ b n [] → state_of b' ≡ ended entries_in_place (state_of b)
+      → b'.made ≡ (built_from entries_in_place all (made 0 made₀)).bytes
+  unfolding run
+  build_ends {b} b' s e =
+      ap (λ (s : ParserState ℕ Made). s.made.bytes) e ∙ ap (λ (s : ParserState ℕ Made). (ended entries_in_place s).made.bytes) s.runs

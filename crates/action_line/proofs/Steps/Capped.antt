@@ -1,5 +1,5 @@
 -- A number from 255 on is held as 255: what the first pass finds out is the same, and numbers below A are held as they are.
-use Prim.Native.Nat.{ℕ, ◌≤◌}
+use Prim.Native.Nat.{ℕ, ◌≤◌, min}
 use mathlib.Core.Path.{◌≡◌, refl, ap, ap₂, ◌∙◌}
 use mathlib.Core.Bool.{true, ◌&&◌}
 use mathlib.Core.List.{List, [], ◌∷◌}
@@ -11,14 +11,14 @@ use Rattle.sheet.proofs.Checks.Checks.{and_parts}
 use Rattle.action_line.specs.Tokens.{Token, number, true_word, false_word, not_word, and_word, or_word, open_parenthesis, close_parenthesis}
 use Rattle.action_line.specs.Tokens.{invalid}
 use Rattle.action_line.specs.Reading.{Expected, operand, operator, failed, expected_after, scan}
-use Rattle.action_line.specs.Internal.Lexemes.{at_most, capped, all_capped}
+use Rattle.action_line.specs.Internal.Lexemes.{capped, all_capped}
 use Rattle.action_line.specs.Entries.{word_count, word_total}
 use Rattle.action_line.specs.Internal.Checking.{known, all_known}
 use Rattle.action_line.proofs.Steps.Numbers.{byte_same}
 
 -- what holds of every token and does not look at a number's value holds of the token as it is held
 by_token : {X : Type 0} (f : Token → X) → ((m n : ℕ) → f (number m) ≡ f (number n)) → (t : Token) → f (capped t) ≡ f t
-by_token f h (number n) = h (at_most 255 n) n
+by_token f h (number n) = h (min n 255) n
 by_token f h true_word = refl
 by_token f h false_word = refl
 by_token f h not_word = refl
@@ -45,11 +45,11 @@ capped_entries [] = refl
 capped_entries (t ∷ ts) = omega (arith, by_token word_count (λ m n. refl) t, capped_entries ts)
 
 module _ (A : ℕ) (b : A ≤ 255) where
-  number_known : (n : ℕ) → ltb (at_most 255 n) A ≡ ltb n A
+  number_known : (n : ℕ) → ltb (min n 255) A ≡ ltb n A
   number_known n =
       elim (dec_lt n 255) [
         | yes less ↦ ap (λ (k : ℕ). ltb k A) (byte_same n (omega arith))
-        | no more ↦ rw (le-ltb n 255 (omega arith), le-ltb 255 A b, le-ltb n A (omega arith)) refl
+        | no more ↦ rw (le-ltb (min n 255) A (omega arith), le-ltb n A (omega arith)) refl
       ]
 
   token_known : (t : Token) → known A (capped t) ≡ known A t

@@ -1,11 +1,14 @@
--- The entries as the code makes them: they are bytes of a buffer, and the operators that wait stand in three arrays. Contracts of private
+-- The entries as the code makes them: they are bytes of a buffer, and the operators that wait stand in an array. Contracts of private
 -- functions cite these; no promise of a public call does.
-use Rattle.std.specs.Prelude.{ℕ, zero, suc, ◌+◌, ◌-◌, ◌*◌, ◌≤◌, Bool, false, List, [], ◌∷◌, eqb, length, set, get_or}
+use Rattle.std.specs.Prelude.{ℕ, zero, suc, ◌+◌, ◌-◌, ◌*◌, ◌≡◌, Bool, false, List, [], ◌∷◌, eqb, set, get_or}
 use Rattle.sheet.specs.Bytes.{pick}
 use Rattle.sheet.specs.Rule.{one_if}
-use Rattle.action_line.specs.Precedence.{not_kind, Builder, Waiting, ParserState, reducible, built_from}
-use Rattle.action_line.specs.Internal.Lexemes.{tokens_from}
-use Rattle.action_line.specs.declared.Progress.{Progress}
+use Rattle.action_line.specs.Precedence.{or_kind, and_kind, not_kind, Builder, Waiting, ParserState, reducible, reduce, completed, built_from}
+use Rattle.action_line.specs.Internal.Lexemes.{tokens_held}
+use Rattle.action_line.specs.declared.builder.BodyBuilder.{BodyBuilder}
+use Rattle.action_line.specs.declared.builder.Operator.{Operator}
+use Rattle.action_line.specs.declared.builder.Operator.TheVariants.{Or, And, Not}
+use Rattle.action_line.specs.declared.builder.Pending.{Pending}
 
 -- the entries made so far, and the output that holds them
 pub record Made : Type 0 where
@@ -35,36 +38,59 @@ entries_in_place =
       combine = λ kind left o. made (o.count + 1) (operator_at o.count kind left o.bytes);
     }
 
--- the operator at place i of the three arrays
-abbrev pub waiting_at : List ℕ → List ℕ → List ℕ → ℕ → Waiting ℕ
-waiting_at kinds depths lefts i = record { kind = get_or kinds i 0; depth = get_or depths i 0; left = get_or lefts i 0 }
+-- the kind of an operator's entry
+abbrev pub kind_of : Operator → ℕ
+kind_of Or = or_kind
+kind_of And = and_kind
+kind_of Not = not_kind
 
--- the first n of them, the last on top
-unfoldable pub stack_of : List ℕ → List ℕ → List ℕ → ℕ → List (Waiting ℕ)
-stack_of kinds depths lefts zero = []
-stack_of kinds depths lefts (suc n) = waiting_at kinds depths lefts n ∷ stack_of kinds depths lefts n
+-- an operator that waits, as the code holds it
+abbrev pub waiting_of : Pending → Waiting ℕ
+waiting_of w = record { kind = kind_of w.operator; depth = w.depth; left = w.left }
 
--- the operator on top stands at this depth and binds at least as tightly as the kind
-abbrev pub top_reducible : ℕ → ℕ → List (Waiting ℕ) → Bool
-top_reducible kind depth [] = false
-top_reducible kind depth (w ∷ ws) = reducible kind depth w
+-- the first n of those that wait, the last on top
+unfoldable pub stack_of : List Pending → ℕ → List (Waiting ℕ)
+stack_of waiting zero = []
+stack_of waiting (suc n) = waiting_of (get_or waiting n (record { operator = Or; depth = 0; left = 0 })) ∷ stack_of waiting n
 
--- the state of the pass that the arrays, the output and the three numbers of a place hold
-abbrev pub state_of : List ℕ → List ℕ → List ℕ → List ℕ → Progress → ParserState ℕ Made
-state_of kinds depths lefts out p =
-    record { depth = p.depth; stack = stack_of kinds depths lefts p.waiting; made = made p.count out }
+-- the state of the pass that the code's value holds
+abbrev pub state_of : BodyBuilder → ParserState ℕ Made
+state_of b = record { depth = b.depth; stack = stack_of b.waiting b.top; made = made b.count b.made }
 
--- the arrays have room for what waits, the output for that and for what is made, and for so many more
-pub record Room (kinds depths lefts out : List ℕ) (p : Progress) (more : ℕ) : Type 0 where
-  pub kinds_room : 32 ≤ length kinds
-  pub depths_room : 32 ≤ length depths
-  pub lefts_room : 32 ≤ length lefts
-  pub few : p.waiting + p.count + more ≤ 32
-  pub output_room : 1 + 3 * (p.waiting + p.count + more) ≤ length out
+-- nothing is made yet
+pub record IsNew (b : BodyBuilder) : Type 0 where
+  pub depth_none : b.depth ≡ 0
+  pub none_waiting : b.top ≡ 0
+  pub none_made : b.count ≡ 0
+
+-- ---- what steps do to the state
+
+-- the operator on top stands at the depth of the state and binds at least as tightly as the kind
+abbrev pub on_top : ℕ → ℕ → List (Waiting ℕ) → Bool
+on_top kind depth [] = false
+on_top kind depth (w ∷ ws) = reducible kind depth w
+
+abbrev pub top_reducible : ℕ → ParserState ℕ Made → Bool
+top_reducible kind s = on_top kind s.depth s.stack
+
+abbrev pub reduced : ℕ → ParserState ℕ Made → ParserState ℕ Made
+reduced kind s = reduce entries_in_place kind s.depth s.stack s.made
+
+-- with one more entry
+abbrev pub with_entry : ℕ → ℕ → ℕ → ParserState ℕ Made → ParserState ℕ Made
+with_entry kind x y s = record { depth = s.depth; stack = s.stack; made = put kind x y s.made }
+
+-- with an operator's entry
+abbrev pub combined : ℕ → ℕ → ParserState ℕ Made → ParserState ℕ Made
+combined kind left s = record { depth = s.depth; stack = s.stack; made = entries_in_place.combine kind left s.made }
+
+-- with an operand's entry, which is complete
+abbrev pub with_operand : ℕ → ℕ → ParserState ℕ Made → ParserState ℕ Made
+with_operand kind x s = completed entries_in_place s.depth s.stack (put kind x 0 s.made)
 
 -- what the tokens of the line make in an output
 abbrev pub built_in : List ℕ → List ℕ → Made
-built_in line out = built_from entries_in_place (tokens_from line 0) (made 0 out)
+built_in line out = built_from entries_in_place (tokens_held line) (made 0 out)
 
 -- the count and the entries
 abbrev pub built_body : Made → List ℕ
