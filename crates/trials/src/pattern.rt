@@ -3,20 +3,20 @@ ghost use Rattle.std.specs.Prelude.{◌≤◌, length};
 
 use crate::input::{Buffer, Byte, Number};
 use crate::{input, output};
-use patterns::Translated;
+use sheet::Numbered;
 use std::io::{Result, Stdin, Stdout};
 
-fn write_length(stdout: Stdout, t: Translated) -> Result<()> {
+fn write_length(stdout: Stdout, number: u8, place: u16, length: usize) -> Result<()> {
     output::text(stdout, b"pattern")?;
-    output::number(stdout, t.number() as u64)?;
-    output::number(stdout, t.place() as u64)?;
-    output::number(stdout, t.length() as u64)?;
+    output::number(stdout, u64::from(number))?;
+    output::number(stdout, u64::from(place))?;
+    output::number(stdout, length as u64)?;
     output::end_line(stdout)
 }
 
 fn translate(stdout: Stdout, sheet: &[u8], pattern: &[u8], out: &mut [u8]) -> Result<()> {
     let t = patterns::translating::translate(sheet, pattern, out);
-    write_length(stdout, t)?;
+    write_length(stdout, t.number(), t.place(), t.unwrap_or(0))?;
     output::text(stdout, b"out")?;
     output::hex(stdout, out)?;
     output::end_line(stdout)
