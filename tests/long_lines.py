@@ -17,6 +17,8 @@ import time
 from native import SLICE, loaded
 
 SOURCE = '''
+use sheet::Numbered;
+
 #[unsafe(no_mangle)]
 pub extern "C" fn line_number(actions: u8, line: &[u8], out: &mut [u8]) -> u8 {
     let p = action_line::parsing::parse(actions, line, out);
@@ -26,7 +28,7 @@ pub extern "C" fn line_number(actions: u8, line: &[u8], out: &mut [u8]) -> u8 {
 #[unsafe(no_mangle)]
 pub extern "C" fn line_length(actions: u8, line: &[u8], out: &mut [u8]) -> usize {
     let p = action_line::parsing::parse(actions, line, out);
-    p.length()
+    p.unwrap_or(0)
 }
 '''
 

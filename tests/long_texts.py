@@ -22,6 +22,8 @@ from oracle.aut import aut_body
 from oracle.sheet import Refused
 
 SOURCE = '''
+use sheet::Numbered;
+
 #[unsafe(no_mangle)]
 pub extern "C" fn aut_number(text: &[u8], out: &mut [u8]) -> u8 {
     let c = aut::converting::convert(text, out);
@@ -37,7 +39,7 @@ pub extern "C" fn aut_place(text: &[u8], out: &mut [u8]) -> u16 {
 #[unsafe(no_mangle)]
 pub extern "C" fn aut_length(text: &[u8], out: &mut [u8]) -> usize {
     let c = aut::converting::convert(text, out);
-    c.length()
+    c.unwrap_or(0)
 }
 '''
 

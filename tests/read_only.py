@@ -41,46 +41,30 @@ pub extern "C" fn child_count(kind: u8) -> %s {
 # every public function of the sheet crate but child_count, which an earlier revision need not have
 # and which the reader asks: so every function
 WHOLE = '''
-use sheet::Check;
-use sheet::Node;
-use sheet::Read;
-use sheet::Variable;
-use sheet::Written;
+use sheet::{Node, Numbered, Variable};
 
 #[unsafe(no_mangle)]
 pub extern "C" fn refusal_number(sheet: &[u8]) -> u8 {
     let read = sheet::reader::read(sheet);
-    match read {
-        Read::Accepted(_) => 0,
-        Read::Refused(refusal) => refusal.number(),
-    }
+    read.number()
 }
 
 #[unsafe(no_mangle)]
 pub extern "C" fn refusal_place(sheet: &[u8]) -> u16 {
     let checked = sheet::reader::check(sheet);
-    match checked {
-        Check::Passed => 0,
-        Check::Failed(refusal) => refusal.place(),
-    }
+    checked.place()
 }
 
 #[unsafe(no_mangle)]
 pub extern "C" fn write_sheet(plan: &[u8], actions: &[u8], rule: &[u8], out: &mut [u8]) -> usize {
     let written = sheet::writer::write(plan, actions, rule, out);
-    match written {
-        Written::Wrote(length) => length,
-        Written::Refused(_) => 0,
-    }
+    written.unwrap_or(0)
 }
 
 #[unsafe(no_mangle)]
 pub extern "C" fn check_plan(plan: &[u8]) -> bool {
     let checked = sheet::plan::check_plan(plan);
-    match checked {
-        Check::Passed => true,
-        Check::Failed(_) => false,
-    }
+    checked.is_ok()
 }
 
 #[unsafe(no_mangle)]

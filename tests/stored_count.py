@@ -22,6 +22,8 @@ from oracle.rows import Sheet, clear, count, query
 from oracle.sheet import Refused, four, sheet_of
 
 SOURCE = '''
+use sheet::Numbered;
+
 #[unsafe(no_mangle)]
 pub extern "C" fn count_number(sheet: &[u8], table: &[u8]) -> u8 {
     let counted = judge::counting::stored_count(sheet, table);
@@ -37,7 +39,7 @@ pub extern "C" fn count_place(sheet: &[u8], table: &[u8]) -> u16 {
 #[unsafe(no_mangle)]
 pub extern "C" fn stored_count(sheet: &[u8], table: &[u8]) -> u32 {
     let counted = judge::counting::stored_count(sheet, table);
-    counted.stored()
+    counted.unwrap_or(0)
 }
 '''
 

@@ -9,8 +9,9 @@ use Rattle.sheet.specs.WellFormed.{WellFormedSheet}
 use Rattle.recordings.specs.Runs.{HoldsOn, Beginning, most_actions, ActionsBelow, WellFormedRun}
 use Rattle.recordings.specs.Shortest.{holds_on, reported_shortest, HandsBack}
 use Rattle.recordings.specs.RunAsSheet.{RunAsSheet}
-use Rattle.recordings.specs.declared.Answer.{Answer}
-use Rattle.recordings.specs.declared.Answer.TheVariants.{FirstFails, SecondFails, NoneFails}
+use Rattle.recordings.specs.Shortest.{Answer}
+use Rattle.recordings.specs.declared.Failing.TheVariants.{First, Second}
+use Rattle.std.specs.Prelude.{Some, None, Ok}
 
 -- what the contract computes is Table 1's meaning on the chain, of every run whose actions are below A, whatever its length
 abbrev pub HoldsExactly : Type 0
@@ -77,16 +78,16 @@ pub record ShortestAnswered (s first second : List ℕ) (answer : Answer) (part 
   -- back
   pub first_named :
       (n : ℕ) (b : List ℕ)
-      → ((answer ≡ FirstFails n) × (part ≡ b)) ↔ (NotRefused s first second × ((n ≡ length b) × ShortestFailing s first second b))
+      → ((answer ≡ Ok (Some (First n))) × (part ≡ b)) ↔ (NotRefused s first second × ((n ≡ length b) × ShortestFailing s first second b))
   -- exactly where it is the second's, and the first has none of equal length on which the rule fails, the second is named
   pub second_named :
       (n : ℕ) (b : List ℕ)
-      → ((answer ≡ SecondFails n) × (part ≡ b))
+      → ((answer ≡ Ok (Some (Second n))) × (part ≡ b))
       ↔ (NotRefused s first second × ((n ≡ length b) × (ShortestFailing s second first b × FirstHolds s first b)))
   -- 'The answer "none fails" comes .. exactly when the rule holds on every beginning of both.'
-  pub none_fails : (answer ≡ NoneFails) ↔ (NotRefused s first second × AllHold s first second)
+  pub none_fails : (answer ≡ Ok None) ↔ (NotRefused s first second × AllHold s first second)
   -- "with an empty part"; that it is "of the first recording" the contract says, by taken_from of specs/Shortest.antt
-  pub none_part : answer ≡ NoneFails → part ≡ []
+  pub none_part : answer ≡ Ok None → part ≡ []
   -- document 01: "A refused call gives .. lengths and any further result number 0, any part handed back empty"
   pub refused : (reported_shortest answer).number ≢ 0 → ((reported_shortest answer).size ≡ 0) × (part ≡ [])
 

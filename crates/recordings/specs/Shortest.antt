@@ -1,6 +1,6 @@
 -- Document 02 (j): "Hand back the shortest beginning, taken from either recording, on which the rule fails". What the call answers and
 -- hands back, for every sheet and every two recordings.
-use Rattle.std.specs.Prelude.{ℕ, suc, ◌≡◌, Bool, not, ◌&&◌, ◌||◌, List, length, take, eqb, leb, Err, Ok}
+use Rattle.std.specs.Prelude.{ℕ, suc, ◌≡◌, Bool, not, ◌&&◌, ◌||◌, List, length, take, eqb, leb, Err, Ok, Some, None, Option, Result}
 use Rattle.sheet.specs.Bytes.{byte, pick, lowest}
 use Rattle.sheet.specs.Contents.{plan_body, actions_body, rule_body}
 use Rattle.sheet.specs.Plan.{action_count}
@@ -11,8 +11,10 @@ use Rattle.calculus.specs.Decode.{formula}
 use Rattle.calculus.specs.Eval.{eval}
 use Rattle.calculus.specs.Verdict.{empty_context}
 use Rattle.recordings.specs.Runs.{chain, most_actions}
-use Rattle.recordings.specs.declared.Answer.{Answer}
-use Rattle.recordings.specs.declared.Answer.TheVariants.{FirstFails, SecondFails, NoneFails, RunTooLong, NoSuchAction, Refused}
+use Rattle.recordings.specs.declared.Failing.{Failing}
+use Rattle.recordings.specs.declared.RecordingError.{RecordingError}
+use Rattle.recordings.specs.declared.Failing.TheVariants.{First, Second}
+use Rattle.recordings.specs.declared.RecordingError.TheVariants.{RunTooLong, NoSuchAction, Refused}
 
 -- ---- the rule on a run
 
@@ -45,6 +47,10 @@ actions_in_range s first second = actions_below (action_count (plan_body s)) fir
 
 -- ---- the answer
 
+-- which recording the beginning handed back is of, and how many actions it has; that the rule fails on none; or why the call was turned down
+abbrev pub Answer : Type 0
+Answer = Result (Option Failing) RecordingError
+
 -- "from either recording": one of the two has a beginning of n actions on which the rule fails
 abbrev pub either_fails : List ℕ → List ℕ → List ℕ → ℕ → Bool
 either_fails s first second n = fails_at s first n || fails_at s second n
@@ -55,7 +61,7 @@ fewest s first second = lowest (either_fails s first second) (suc most_actions)
 
 -- "between equal lengths, the first recording's"; 'The answer "none fails"'
 abbrev pub answer_fewest : ℕ → Bool → Answer
-answer_fewest n of-first = pick (leb n most_actions) (pick of-first (FirstFails n) (SecondFails n)) NoneFails
+answer_fewest n of-first = pick (leb n most_actions) (pick of-first (Ok (Some (First n))) (Ok (Some (Second n)))) (Ok None)
 
 -- the answer where nothing is refused
 abbrev pub answer_found : List ℕ → List ℕ → List ℕ → Answer
@@ -63,7 +69,7 @@ answer_found s first second = answer_fewest (fewest s first second) (fails_at s 
 
 -- "a run over 127 actions with 42 and an action not below A with 43"
 abbrev pub answer_runs : Bool → Bool → Answer → Answer
-answer_runs short in_range_lem next = pick short (pick in_range_lem next NoSuchAction) RunTooLong
+answer_runs short in_range_lem next = pick short (pick in_range_lem next (Err NoSuchAction)) (Err RunTooLong)
 
 -- the answer for an accepted sheet
 abbrev pub answer_accepted : List ℕ → List ℕ → List ℕ → Answer
@@ -72,7 +78,7 @@ answer_accepted s first second = answer_runs (runs_short first second) (actions_
 -- "after 1 to 10"
 abbrev pub answer_sheet : Check → Answer → Answer
 answer_sheet (Ok tt) next = next
-answer_sheet (Err x) next = Refused x
+answer_sheet (Err x) next = Err (Refused x)
 
 -- the answer for every sheet and every two recordings
 unfoldable pub shortest_of : List ℕ → List ℕ → List ℕ → Answer
@@ -86,24 +92,24 @@ pub record ShortestReport : Type 0 where
 
 -- document 01: "An accepted call gives number 0 and place 0."; on a refusal its number and place, "lengths and any further result number 0"
 abbrev pub reported_shortest : Answer → ShortestReport
-reported_shortest (FirstFails n) = record { number = 0; place = 0; size = n }
-reported_shortest (SecondFails n) = record { number = 0; place = 0; size = n }
-reported_shortest NoneFails = record { number = 0; place = 0; size = 0 }
+reported_shortest (Ok (Some (First n))) = record { number = 0; place = 0; size = n }
+reported_shortest (Ok (Some (Second n))) = record { number = 0; place = 0; size = n }
+reported_shortest (Ok None) = record { number = 0; place = 0; size = 0 }
 -- "a run over 127 actions with 42"; document 01: "Other places are 0."
-reported_shortest RunTooLong = record { number = 42; place = 0; size = 0 }
+reported_shortest (Err RunTooLong) = record { number = 42; place = 0; size = 0 }
 -- "an action not below A with 43"
-reported_shortest NoSuchAction = record { number = 43; place = 0; size = 0 }
-reported_shortest (Refused x) = record { number = number_of x; place = place_of x; size = 0 }
+reported_shortest (Err NoSuchAction) = record { number = 43; place = 0; size = 0 }
+reported_shortest (Err (Refused x)) = record { number = number_of x; place = place_of x; size = 0 }
 
 -- "taken from either recording": the one that the part is of, an empty part too. '"none fails" comes with an empty part of the first
 -- recording', and so does a refusal. The contract says so of the places in memory where the recordings and the part begin.
 abbrev pub taken_from : {Place : Type 0} → Place → Place → Answer → Place
-taken_from first second (FirstFails n) = first
-taken_from first second (SecondFails n) = second
-taken_from first second NoneFails = first
-taken_from first second RunTooLong = first
-taken_from first second NoSuchAction = first
-taken_from first second (Refused x) = first
+taken_from first second (Ok (Some (First n))) = first
+taken_from first second (Ok (Some (Second n))) = second
+taken_from first second (Ok None) = first
+taken_from first second (Err RunTooLong) = first
+taken_from first second (Err NoSuchAction) = first
+taken_from first second (Err (Refused x)) = first
 
 -- the part that goes with an answer: so many actions of that recording; document 01: a refused call gives "any part handed back empty"
 abbrev pub part_for : List ℕ → List ℕ → Answer → List ℕ

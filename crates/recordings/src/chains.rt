@@ -1,5 +1,5 @@
 // The sheet of a chain: the plan of a run, with the actions and the rule of a sheet.
-ghost use Rattle.std.specs.Prelude.{◌≡◌, ◌≤◌, length};
+ghost use Rattle.std.specs.Prelude.{◌≡◌, ◌*◌, ◌≤◌, length, take};
 ghost use Rattle.text.specs.Placing.{Puts};
 ghost use Rattle.recordings.specs.Runs.{most_actions};
 ghost use Rattle.recordings.specs.RunAsSheet.{chain_bytes, chain_sheet};
@@ -9,6 +9,7 @@ use sheet::HEAD_LENGTH;
 use sheet::plan::action_count;
 use sheet::reader::{actions_body, plan_body, rule_body};
 use sheet::writer::head_of;
+use text::Writer;
 
 // The most actions of a run.
 pub(crate) const MOST_ACTIONS: usize = 127;
@@ -24,14 +25,11 @@ pub(crate) fn put_chain(run: &[u8], room: &mut [u8]) -> usize
     requires { (length run.now ≤ most_actions) × (chain_room ≤ length room.old) }
     ensures { Puts (chain_bytes 0 run.now) result room.old room.new }
 {
-    let mut at: usize = 0;
-    let mut i: usize = 0;
-    while i < run.len() {
-        let step = [i as u8, run[i], (i + 1) as u8];
-        at = text::put(&step, at, room);
-        i += 1;
+    let mut writer = Writer::new(room);
+    for (i, &action) in run.iter().enumerate() {
+        writer.put(&[i as u8, action, (i + 1) as u8]);
     }
-    at
+    writer.place
 }
 
 // S, A and T of a chain of n actions.
@@ -42,23 +40,48 @@ fn chain_head(actions: u8, n: usize) -> [u8; 4]
     [(n + 1) as u8, actions, n as u8, 0]
 }
 
-// The sheet of the chain at the front of room, and its length.
-pub(crate) fn put_sheet(sheet: &[u8], run: &[u8], chain: &[u8], room: &mut [u8]) -> usize
-    requires judgeable { Judgeable sheet.now run.now chain.now }
-    requires chain_sheet_room_in_bounds { chain_sheet_room ≤ length room.old }
-    ensures { Puts (chain_sheet sheet.now run.now) result room.old room.new }
-{
-    let actions = actions_body(sheet);
-    let rule = rule_body(sheet);
-    let head = head_of(
-        (4 + chain.len()) as u16,
-        actions.len() as u16,
-        rule.len() as u16,
-    );
-    let start = chain_head(action_count(plan_body(sheet)), run.len());
-    let after_head = text::put(&head, 0, room);
-    let after_start = text::put(&start, after_head, room);
-    let after_chain = text::put(chain, after_start, room);
-    let after_actions = text::put(actions, after_chain, room);
-    text::put(rule, after_actions, room)
+// A recording of a machine whose rule is on the sheet, with the transitions of its chain.
+#[derive(Clone, Copy)]
+pub(crate) struct Recording<'a> {
+    pub(crate) sheet: &'a [u8],
+    pub(crate) run: &'a [u8],
+    pub(crate) chain: &'a [u8],
+    ghost judgeable: { Judgeable sheet.now run.now chain.now },
+}
+
+impl<'a> Recording<'a> {
+    // The beginning of n actions, which is a recording too.
+    pub(crate) fn beginning(self, n: usize) -> Recording<'a>
+        requires { n ≤ length self.run.now }
+        ensures sheet_same { result.sheet.now ≡ self.entry.sheet.now }
+        ensures front { result.run.now ≡ take n self.entry.run.now }
+    {
+        Recording {
+            sheet: self.sheet,
+            run: &self.run[..n],
+            chain: &self.chain[..3 * n],
+        }
+    }
+
+    // The sheet of the chain at the front of room, and its length.
+    pub(crate) fn put_sheet(self, room: &mut [u8]) -> usize
+        requires { chain_sheet_room ≤ length room.old }
+        ensures { Puts (chain_sheet self.entry.sheet.now self.entry.run.now) result room.old room.new }
+    {
+        let actions = actions_body(self.sheet);
+        let rule = rule_body(self.sheet);
+        let head = head_of(
+            (4 + self.chain.len()) as u16,
+            actions.len() as u16,
+            rule.len() as u16,
+        );
+        let start = chain_head(action_count(plan_body(self.sheet)), self.run.len());
+        let mut writer = Writer::new(room);
+        writer.put(&head);
+        writer.put(&start);
+        writer.put(self.chain);
+        writer.put(actions);
+        writer.put(rule);
+        writer.place
+    }
 }

@@ -8,56 +8,59 @@ mod chains;
 mod judging;
 pub mod searching;
 
-ghost use Rattle.std.specs.Prelude.{◌≡◌};
+ghost use Rattle.std.specs.Prelude.{◌≡◌, Err};
 ghost use Rattle.recordings.specs.Shortest.{reported_shortest};
+ghost use Rattle.recordings.specs.declared.RecordingError.TheVariants.{Refused};
 
 use sheet::{Numbered, Refusal};
 
-// Which recording the shortest beginning on which the rule fails is of, and how many actions it has; or that there is none; or why the call was turned
-// down.
+// Which recording the shortest beginning on which the rule fails is of, and how many actions it has.
 #[derive(Clone, Copy)]
-pub enum Answer {
-    FirstFails(usize),
-    SecondFails(usize),
-    NoneFails,
+pub enum Failing {
+    First(usize),
+    Second(usize),
+}
+
+// Why two recordings are turned down: a run of too many actions, an action that the sheet does not have, or the sheet's own refusal.
+#[derive(Clone, Copy)]
+pub enum RecordingError {
     RunTooLong,
     NoSuchAction,
     Refused(Refusal),
 }
 
-impl Answer {
-    // Its number: 0, 42 for a run that is too long, 43 for an action that the sheet does not have, or that of the refusal.
-    pub fn number(self) -> u8
-        ensures { result ≡ (reported_shortest self).number }
-    {
+impl From<Refusal> for RecordingError {
+    ghost from_gives = { λ x e. e ≡ Refused x };
+
+    fn from(x: Refusal) -> RecordingError {
+        RecordingError::Refused(x)
+    }
+}
+
+impl Numbered for RecordingError {
+    ghost number = { λ e. (reported_shortest (Err e)).number };
+
+    ghost place = { λ e. (reported_shortest (Err e)).place };
+
+    fn number(&self) -> u8 {
         match self {
-            Answer::FirstFails(_) => 0,
-            Answer::SecondFails(_) => 0,
-            Answer::NoneFails => 0,
-            Answer::RunTooLong => 42,
-            Answer::NoSuchAction => 43,
-            Answer::Refused(x) => x.number(),
+            RecordingError::RunTooLong => 42,
+            RecordingError::NoSuchAction => 43,
+            RecordingError::Refused(x) => x.number(),
         }
     }
 
-    // The place of the refusal, or 0.
-    pub fn place(self) -> u16
-        ensures { result ≡ (reported_shortest self).place }
-    {
+    fn place(&self) -> u16 {
         match self {
-            Answer::FirstFails(_) => 0,
-            Answer::SecondFails(_) => 0,
-            Answer::NoneFails => 0,
-            Answer::RunTooLong => 0,
-            Answer::NoSuchAction => 0,
-            Answer::Refused(x) => x.place(),
+            RecordingError::RunTooLong | RecordingError::NoSuchAction => 0,
+            RecordingError::Refused(x) => x.place(),
         }
     }
 }
 
-// The answer, and the part of one of the two recordings that goes with it.
+// What is answered of two recordings, None where the rule fails on no beginning, and the part of one of them that goes with it.
 #[derive(Clone, Copy)]
 pub struct Shortest<'a> {
-    pub answer: Answer,
+    pub answer: Result<Option<Failing>, RecordingError>,
     pub part: &'a [u8],
 }

@@ -2,14 +2,11 @@
 // the second's.
 ghost use Rattle.std.specs.Prelude.{◌≡◌, take};
 ghost use Rattle.sheet.specs.Reading.{sheet_check};
-ghost use Rattle.std.specs.Prelude.{Ok};
 ghost use Rattle.recordings.specs.Runs.{WellFormedRun};
-ghost use Rattle.recordings.specs.Shortest.{actions_below, answer_found, answer_accepted, shortest_of, part_for, taken_from, HandsBack};
-ghost use Rattle.recordings.specs.Internal.Chains.{Judgeable};
+ghost use Rattle.recordings.specs.Shortest.{actions_below, answer_found, shortest_of, part_for, taken_from, HandsBack};
 
-use crate::chains::{CHAIN_ROOM, MOST_ACTIONS, put_chain};
-use crate::judging::fails_at;
-use crate::{Answer, Shortest};
+use crate::chains::{CHAIN_ROOM, MOST_ACTIONS, Recording, put_chain};
+use crate::{Failing, RecordingError, Shortest};
 use sheet::plan::action_count;
 use sheet::reader::{check, plan_body};
 
@@ -17,101 +14,86 @@ use sheet::reader::{check, plan_body};
 fn all_below(run: &[u8], actions: u8) -> bool
     ensures { result ≡ actions_below actions run.now }
 {
-    let mut i: usize = 0;
-    while i < run.len() {
-        if actions <= run[i] {
-            return false;
-        }
-        i += 1;
-    }
-    true
+    run.iter().all(|&action| action < actions)
 }
 
-// The answer for two recordings whose transitions are at hand.
-fn search(sheet: &[u8], first: &[u8], chain1: &[u8], second: &[u8], chain2: &[u8]) -> Answer
-    requires judgeable { Judgeable sheet.now first.now chain1.now }
-    requires judgeable_2 { Judgeable sheet.now second.now chain2.now }
-    ensures { result ≡ answer_found sheet.now first.now second.now }
+// What fails first of two recordings of one sheet.
+fn search(first: Recording<'_>, second: Recording<'_>) -> Option<Failing>
+    requires { second.sheet.now ≡ first.sheet.now }
+    ensures { Ok result ≡ answer_found first.entry.sheet.now first.entry.run.now second.entry.run.now }
 {
-    let mut n: usize = 0;
-    while n <= MOST_ACTIONS {
-        if fails_at(sheet, first, chain1, n) {
-            return Answer::FirstFails(n);
+    for n in 0..=MOST_ACTIONS {
+        if first.fails_at(n) {
+            return Some(Failing::First(n));
         }
-        if fails_at(sheet, second, chain2, n) {
-            return Answer::SecondFails(n);
+        if second.fails_at(n) {
+            return Some(Failing::Second(n));
         }
-        n += 1;
     }
-    Answer::NoneFails
+    None
 }
 
-// The answer for two recordings that are not refused.
-fn search_recorded(sheet: &[u8], first: &[u8], second: &[u8]) -> Answer
-    requires sheet_value { sheet_check sheet.now ≡ Ok tt }
-    requires well_formed_run { WellFormedRun sheet.now first.now × WellFormedRun sheet.now second.now }
-    ensures { result ≡ answer_found sheet.now first.now second.now }
+// The same of two recordings that are not refused.
+fn search_recorded(sheet: &[u8], first: &[u8], second: &[u8]) -> Option<Failing>
+    requires passed { sheet_check sheet.now ≡ Ok tt }
+    requires first_kept { WellFormedRun sheet.now first.now }
+    requires second_kept { WellFormedRun sheet.now second.now }
+    ensures { Ok result ≡ answer_found sheet.now first.now second.now }
 {
     let mut first_room = [0u8; CHAIN_ROOM];
     let mut second_room = [0u8; CHAIN_ROOM];
     let n = put_chain(first, &mut first_room);
     let m = put_chain(second, &mut second_room);
-    search(sheet, first, &first_room[..n], second, &second_room[..m])
-}
-
-// The answer for an accepted sheet.
-fn search_accepted(sheet: &[u8], first: &[u8], second: &[u8]) -> Answer
-    requires { sheet_check sheet.now ≡ Ok tt }
-    ensures { result ≡ answer_accepted sheet.now first.now second.now }
-{
-    if MOST_ACTIONS < first.len() {
-        return Answer::RunTooLong;
-    }
-    if MOST_ACTIONS < second.len() {
-        return Answer::RunTooLong;
-    }
-    let actions = action_count(plan_body(sheet));
-    if !all_below(first, actions) {
-        return Answer::NoSuchAction;
-    }
-    if !all_below(second, actions) {
-        return Answer::NoSuchAction;
-    }
-    search_recorded(sheet, first, second)
+    search(
+        Recording {
+            sheet,
+            run: first,
+            chain: &first_room[..n],
+        },
+        Recording {
+            sheet,
+            run: second,
+            chain: &second_room[..m],
+        },
+    )
 }
 
 // The answer for any bytes.
-fn find(sheet: &[u8], first: &[u8], second: &[u8]) -> Answer
+#[tactic(auto, using(crate::proofs::Steps::Searching::run_kept), unfolding(crate::specs::Shortest::shortest_of))]
+fn find(sheet: &[u8], first: &[u8], second: &[u8]) -> Result<Option<Failing>, RecordingError>
     ensures { result ≡ shortest_of sheet.now first.now second.now }
 {
-    let checked = check(sheet);
-    match checked {
-        Err(x) => Answer::Refused(x),
-        Ok(()) => search_accepted(sheet, first, second),
+    check(sheet)?;
+    if MOST_ACTIONS < first.len() || MOST_ACTIONS < second.len() {
+        return Err(RecordingError::RunTooLong);
     }
+    let actions = action_count(plan_body(sheet));
+    if !all_below(first, actions) || !all_below(second, actions) {
+        return Err(RecordingError::NoSuchAction);
+    }
+    Ok(search_recorded(sheet, first, second))
 }
 
 // The first n actions, or those that there are.
 fn front(run: &[u8], n: usize) -> &[u8]
     ensures { (result.now ≡ take n run.now) × (result.ref_ptr ≡ run.entry.ref_ptr) }
 {
-    if run.len() < n {
-        return run;
-    }
-    &run[..n]
+    &run[..n.min(run.len())]
 }
 
 // The part that goes with an answer.
-fn part_for<'a>(first: &'a [u8], second: &'a [u8], answer: Answer) -> &'a [u8]
+fn part_for<'a>(
+    first: &'a [u8],
+    second: &'a [u8],
+    answer: Result<Option<Failing>, RecordingError>,
+) -> &'a [u8]
     ensures { (result.now ≡ part_for first.now second.now answer) × (result.ref_ptr ≡ taken_from first.entry.ref_ptr second.entry.ref_ptr answer) }
 {
     match answer {
-        Answer::FirstFails(n) => front(first, n),
-        Answer::SecondFails(n) => front(second, n),
-        Answer::NoneFails => front(first, 0),
-        Answer::RunTooLong => front(first, 0),
-        Answer::NoSuchAction => front(first, 0),
-        Answer::Refused(_) => front(first, 0),
+        Ok(Some(Failing::First(n))) => front(first, n),
+        Ok(Some(Failing::Second(n))) => front(second, n),
+        Ok(None) => front(first, 0),
+        Err(_) => front(first, 0),
     }
 }
 

@@ -11,51 +11,8 @@ use crate::{Fields, Refusal};
 fn sized(a: &[u8]) -> bool
     ensures { result ≡ actions_sized a.now }
 {
-    if a.len() < 1 {
-        return false;
-    }
     let count = byte_at(a, 0);
-    if 32 < count {
-        return false;
-    }
-    a.len() == 1 + 3 * count
-}
-
-pub(crate) fn both_zero(x: usize, y: usize) -> bool
-    ensures { result ≡ (eqb x 0 && eqb y 0) }
-{
-    if x == 0 {
-        return y == 0;
-    }
-    false
-}
-
-fn below_and_zero(x: usize, bound: usize, y: usize) -> bool
-    ensures { result ≡ (ltb x bound && eqb y 0) }
-{
-    if x < bound {
-        return y == 0;
-    }
-    false
-}
-
-fn both_below(x: usize, y: usize, bound: usize) -> bool
-    ensures { result ≡ (ltb x bound && ltb y bound) }
-{
-    if x < bound {
-        return y < bound;
-    }
-    false
-}
-
-// The fields of a range: the first at most the last, and the last an action of the plan.
-fn range_right(first: usize, last: usize, actions: usize) -> bool
-    ensures { result ≡ (leb first last && ltb last actions) }
-{
-    if first <= last {
-        return last < actions;
-    }
-    false
+    !a.is_empty() && count <= 32 && a.len() == 1 + 3 * count
 }
 
 // Entry e of kind k: each kind has its own use of x and y.
@@ -63,11 +20,11 @@ fn entry_right(actions: usize, e: usize, k: usize, x: usize, y: usize) -> bool
     ensures { result ≡ entry_right actions e k x y }
 {
     match k {
-        0..=1 => both_zero(x, y),
-        2 => below_and_zero(x, actions, y),
-        3..=4 => both_below(x, y, e),
-        5 => below_and_zero(x, e, y),
-        6 => range_right(x, y, actions),
+        0..=1 => x == 0 && y == 0,
+        2 => x < actions && y == 0,
+        3..=4 => x < e && y < e,
+        5 => x < e && y == 0,
+        6 => x <= y && y < actions,
         _ => false,
     }
 }
@@ -87,14 +44,12 @@ fn lowest_faulty(actions: usize, a: &[u8]) -> usize
     ensures { (result ≡ lowest_entry actions a.now) × (result < 256) }
 {
     let count = byte_at(a, 0);
-    let mut e = 0;
-    while e < count {
+    for e in 0..count {
         if entry_faulty(actions, a, e) {
             return e;
         }
-        e += 1;
     }
-    e
+    count
 }
 
 // Refusals 6 and 7.

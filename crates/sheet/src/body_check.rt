@@ -12,15 +12,7 @@ use crate::rule::check_rule;
 pub(crate) fn check_bodies(p: &[u8], a: &[u8], r: &[u8]) -> Result<(), Refusal>
     ensures { result ≡ bodies_check p.now a.now r.now }
 {
-    let plan = check_plan(p);
-    match plan {
-        Err(x) => Err(x),
-        Ok(()) => {
-            let actions = check_actions(byte_at(p, 1), a);
-            match actions {
-                Err(x) => Err(x),
-                Ok(()) => check_rule(byte_at(a, 0), r),
-            }
-        }
-    }
+    check_plan(p)?;
+    check_actions(byte_at(p, 1), a)?;
+    check_rule(byte_at(a, 0), r)
 }

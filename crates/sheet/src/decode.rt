@@ -5,16 +5,10 @@ ghost use Rattle.sheet.specs.Fields.{fields_at};
 
 use crate::Fields;
 
-fn wide(x: u8) -> usize
-    ensures { (result ≡ x) × (result < 256) }
-{
-    x as usize
-}
-
 pub(crate) fn byte_at(s: &[u8], i: usize) -> usize
     ensures { (result ≡ byte s.now i) × (result < 256) }
 {
-    if i < s.len() { wide(s[i]) } else { 0 }
+    usize::from(narrow_at(s, i))
 }
 
 // The same where the place is known to be within.
@@ -22,7 +16,7 @@ pub(crate) fn byte_in(s: &[u8], i: usize) -> usize
     requires { i < length s.now }
     ensures { (result ≡ byte s.now i) × (result < 256) }
 {
-    wide(s[i])
+    usize::from(s[i])
 }
 
 pub(crate) fn word_at(s: &[u8], i: usize) -> usize
@@ -36,20 +30,15 @@ pub(crate) fn word_at(s: &[u8], i: usize) -> usize
 pub fn slice_of(s: &[u8], start: usize, length: usize) -> &[u8]
     ensures { result.now ≡ slice s.now start length }
 {
-    if s.len() <= start {
-        return &s[0..0];
-    }
-    if s.len() - start <= length {
-        return &s[start..];
-    }
-    &s[start..start + length]
+    let rest = s.get(start..).unwrap_or_default();
+    rest.get(..length).unwrap_or(rest)
 }
 
 // A byte as a byte.
 pub(crate) fn narrow_at(s: &[u8], i: usize) -> u8
     ensures { result ≡ byte s.now i }
 {
-    if i < s.len() { s[i] } else { 0 }
+    s.get(i).copied().unwrap_or(0)
 }
 
 // A byte of item i, where items of three bytes follow one another and base is that byte's place in item 0.
@@ -64,7 +53,7 @@ pub(crate) fn field_at(s: &[u8], base: usize, i: usize) -> u8
 pub(crate) fn fields_at(body: &[u8], i: u8) -> Fields
     ensures { result ≡ fields_at body.now i }
 {
-    let at = i as usize;
+    let at = usize::from(i);
     Fields {
         kind: field_at(body, 1, at),
         x: field_at(body, 2, at),

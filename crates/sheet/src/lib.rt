@@ -20,20 +20,20 @@ pub const HEAD_LENGTH: usize = 17;
 pub const LONGEST: usize = 6455;
 
 // Numbers of states, nodes, actions and variables: one never stands for another.
-#[derive(Clone, Copy)]
+#[derive(Clone, Copy, Debug, PartialEq, Eq, PartialOrd, Ord)]
 pub struct State(pub u8);
 
-#[derive(Clone, Copy)]
+#[derive(Clone, Copy, Debug, PartialEq, Eq, PartialOrd, Ord)]
 pub struct Node(pub u8);
 
-#[derive(Clone, Copy)]
+#[derive(Clone, Copy, Debug, PartialEq, Eq, PartialOrd, Ord)]
 pub struct Action(pub u8);
 
-#[derive(Clone, Copy)]
+#[derive(Clone, Copy, Debug, PartialEq, Eq, PartialOrd, Ord)]
 pub struct Variable(pub u8);
 
-// A transition of the plan.
-#[derive(Clone, Copy)]
+// A transition of the plan. The order is that of the plan: by origin, then action, then target.
+#[derive(Clone, Copy, Debug, PartialEq, Eq, PartialOrd, Ord)]
 pub struct Transition {
     pub from: State,
     pub action: Action,
@@ -41,7 +41,7 @@ pub struct Transition {
 }
 
 // The three bytes of an action entry or of a node.
-#[derive(Clone, Copy)]
+#[derive(Clone, Copy, Debug, PartialEq, Eq)]
 pub struct Fields {
     pub kind: u8,
     pub x: u8,
@@ -49,7 +49,7 @@ pub struct Fields {
 }
 
 // Why a call turns its input down; a case that has a place holds it.
-#[derive(Clone, Copy)]
+#[derive(Clone, Copy, Debug, PartialEq, Eq)]
 pub enum Refusal {
     TooShort,
     Heading,
@@ -141,14 +141,14 @@ impl<T, E: Numbered> Numbered for Result<T, E> {
 }
 
 // Where a body lies in its sheet.
-#[derive(Clone, Copy)]
+#[derive(Clone, Copy, Debug, PartialEq, Eq)]
 pub struct Span {
     pub offset: usize,
     pub length: usize,
 }
 
 // Where the three bodies lie.
-#[derive(Clone, Copy)]
+#[derive(Clone, Copy, Debug, PartialEq, Eq)]
 pub struct Bodies {
     pub plan: Span,
     pub actions: Span,

@@ -13,21 +13,9 @@ use crate::{Action, Refusal, State, Transition};
 fn sized(p: &[u8]) -> bool
     ensures { result ≡ plan_sized p.now }
 {
-    if p.len() < 4 {
-        return false;
-    }
-    let s = byte_at(p, 0);
-    if s < 1 {
-        return false;
-    }
-    if 128 < s {
-        return false;
-    }
-    let t = word_at(p, 2);
-    if 2048 < t {
-        return false;
-    }
-    p.len() == 4 + 3 * t
+    let states = byte_at(p, 0);
+    let count = word_at(p, 2);
+    4 <= p.len() && 1 <= states && states <= 128 && count <= 2048 && p.len() == 4 + 3 * count
 }
 
 // A transition as one number: a greater one comes later by (from, action, to).
@@ -38,36 +26,36 @@ fn key_of(f: usize, a: usize, t: usize) -> usize
     (f * 256 + a) * 256 + t
 }
 
-// 0 where transition i is faulty in anything but its origin, else the least key that the next may have.
-fn rise(p: &[u8], states: usize, actions: usize, floor: usize, i: usize) -> usize
+// The least key that the next transition may have, or none where transition i is faulty in anything but its origin.
+fn rise(p: &[u8], states: usize, actions: usize, floor: usize, i: usize) -> Option<usize>
     requires { Stepping p.now states actions floor i }
     ensures { result ≡ step_at faulty_elsewhere p.now i }
 {
     let a = byte_in(p, 5 + 3 * i);
     if actions <= a {
-        return 0;
+        return None;
     }
     let t = byte_in(p, 6 + 3 * i);
     if states <= t {
-        return 0;
+        return None;
     }
     let key = key_of(byte_in(p, 4 + 3 * i), a, t);
     if key < floor {
-        return 0;
+        return None;
     }
-    key + 1
+    Some(key + 1)
 }
 
-// 0 where transition i is faulty, else the least key that the next may have.
-fn step(p: &[u8], states: usize, actions: usize, floor: usize, i: usize) -> usize
+// The same, or none where transition i is faulty.
+fn step(p: &[u8], states: usize, actions: usize, floor: usize, i: usize) -> Option<usize>
     requires { Stepping p.now states actions floor i }
     ensures { result ≡ step_at transition_faulty p.now i }
 {
-    let next = rise(p, states, actions, floor, i);
+    let next = rise(p, states, actions, floor, i)?;
     if key_of(states, 0, 0) < next {
-        return 0;
+        return None;
     }
-    next
+    Some(next)
 }
 
 // The lowest faulty transition, or the number of transitions; the plan has a byte for each field of them.
@@ -79,16 +67,13 @@ fn lowest_faulty(p: &[u8]) -> usize
     let actions = byte_at(p, 1);
     let count = word_at(p, 2);
     let mut floor = 0;
-    let mut i = 0;
-    while i < count {
-        let next = step(p, states, actions, floor, i);
-        if next == 0 {
+    for i in 0..count {
+        let Some(next) = step(p, states, actions, floor, i) else {
             return i;
-        }
+        };
         floor = next;
-        i += 1;
     }
-    i
+    count
 }
 
 // True only where no transition is faulty: the cheap way for a plan that is right, two transitions a turn. Origins rise with the keys, so
@@ -101,24 +86,20 @@ fn none_faulty(p: &[u8]) -> bool
     let actions = byte_at(p, 1);
     let count = word_at(p, 2);
     let mut floor = 0;
-    let mut i = 0;
-    while i < count / 2 {
-        let middle = rise(p, states, actions, floor, 2 * i);
-        if middle == 0 {
+    for i in 0..count / 2 {
+        let Some(middle) = rise(p, states, actions, floor, 2 * i) else {
             return false;
-        }
-        let next = rise(p, states, actions, middle, 2 * i + 1);
-        if next == 0 {
+        };
+        let Some(next) = rise(p, states, actions, middle, 2 * i + 1) else {
             return false;
-        }
+        };
         floor = next;
-        i += 1;
     }
-    if 2 * i < count {
-        floor = rise(p, states, actions, floor, 2 * i);
-        if floor == 0 {
+    if count % 2 == 1 {
+        let Some(last) = rise(p, states, actions, floor, count - 1) else {
             return false;
-        }
+        };
+        floor = last;
     }
     floor <= key_of(states, 0, 0)
 }
@@ -167,7 +148,7 @@ pub fn transition_count(plan: &[u8]) -> u16
 pub fn transition(plan: &[u8], i: u16) -> Transition
     ensures { result ≡ transition_at plan.now i }
 {
-    let at = i as usize;
+    let at = usize::from(i);
     Transition {
         from: State(field_at(plan, 4, at)),
         action: Action(field_at(plan, 5, at)),

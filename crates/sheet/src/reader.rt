@@ -69,9 +69,6 @@ fn bodies_of(sheet: &[u8]) -> Bodies
 pub fn read(sheet: &[u8]) -> Result<Bodies, Refusal>
     ensures { Reads sheet.now result }
 {
-    let checked = check(sheet);
-    match checked {
-        Ok(()) => Ok(bodies_of(sheet)),
-        Err(x) => Err(x),
-    }
+    check(sheet)?;
+    Ok(bodies_of(sheet))
 }

@@ -6,50 +6,43 @@ ghost use Rattle.sheet.specs.Internal.Subtrees.{NodeOf, Ended};
 ghost use Rattle.sheet.specs.Fields.{fields_at};
 ghost use Rattle.sheet.specs.Reading.{rule_check};
 
-use crate::actions::both_zero;
 use crate::decode::{byte_at, fields_at, narrow_at};
 use crate::kinds::child_count;
 use crate::{Fields, Node, Refusal, Variable};
+
+// The most nodes of a rule.
+const MOST_NODES: usize = 64;
 
 // The rule's length and N are within their limits.
 fn sized(r: &[u8]) -> bool
     ensures { result ≡ rule_sized r.now }
 {
-    if r.len() < 1 {
-        return false;
-    }
     let count = byte_at(r, 0);
-    if count < 1 {
-        return false;
-    }
-    if 64 < count {
-        return false;
-    }
-    r.len() == 1 + 3 * count
+    !r.is_empty() && 1 <= count && count <= MOST_NODES && r.len() == 1 + 3 * count
 }
 
 fn kind_at(r: &[u8], n: Node) -> usize
     ensures { (result ≡ node_kind r.now n.0) × (result < 256) }
 {
-    byte_at(r, 1 + 3 * (n.0 as usize))
+    byte_at(r, 1 + 3 * usize::from(n.0))
 }
 
 fn x_at(r: &[u8], n: Node) -> usize
     ensures { (result ≡ node_x r.now n.0) × (result < 256) }
 {
-    byte_at(r, 2 + 3 * (n.0 as usize))
+    byte_at(r, 2 + 3 * usize::from(n.0))
 }
 
 fn y_at(r: &[u8], n: Node) -> usize
     ensures { (result ≡ node_y r.now n.0) × (result < 256) }
 {
-    byte_at(r, 3 + 3 * (n.0 as usize))
+    byte_at(r, 3 + 3 * usize::from(n.0))
 }
 
 fn leaf_right(r: &[u8], n: Node) -> bool
     ensures { result ≡ (eqb (node_x r.now n.0) 0 && eqb (node_y r.now n.0) 0) }
 {
-    both_zero(x_at(r, n), y_at(r, n))
+    x_at(r, n) == 0 && y_at(r, n) == 0
 }
 
 fn variable_right(r: &[u8], n: Node) -> bool
@@ -61,10 +54,7 @@ fn variable_right(r: &[u8], n: Node) -> bool
 fn child_is(r: &[u8], child: usize, place: usize) -> bool
     ensures { result ≡ child_is r.now child place }
 {
-    if child == place {
-        return place < byte_at(r, 0);
-    }
-    false
+    child == place && place < byte_at(r, 0)
 }
 
 fn x_is_child(r: &[u8], n: Node, place: usize) -> bool
@@ -82,10 +72,7 @@ fn y_is_child(r: &[u8], n: Node, place: usize) -> bool
 fn modal_right(r: &[u8], entries: usize, n: Node) -> bool
     ensures { result ≡ (ltb (node_x r.now n.0) entries && child_is r.now (node_y r.now n.0) (n.0 + 1)) }
 {
-    if x_at(r, n) < entries {
-        return y_is_child(r, n, n.0 as usize + 1);
-    }
-    false
+    x_at(r, n) < entries && y_is_child(r, n, usize::from(n.0) + 1)
 }
 
 // The subtree of node n: each kind takes its own course.
@@ -93,48 +80,20 @@ fn subtree_from(r: &[u8], entries: usize, n: Node) -> Result<usize, Node>
     requires { NodeOf r.now n.0 }
     ensures { Ended entries r.now n.0 result }
 {
-    let k = kind_at(r, n);
     let next = n.0 as usize + 1;
-    match k {
-        0..=1 => { if leaf_right(r, n) { Ok(next) } else { Err(n) } }
-        2..=3 => {
-            if x_is_child(r, n, next) {
-                let first = subtree_from(r, entries, Node(n.0 + 1));
-                match first {
-                    Err(m) => Err(m),
-                    Ok(e) => {
-                        if y_is_child(r, n, e) {
-                            subtree_from(r, entries, Node(e as u8))
-                        } else {
-                            Err(n)
-                        }
-                    }
-                }
+    match kind_at(r, n) {
+        0..=1 if leaf_right(r, n) => Ok(next),
+        2..=3 if x_is_child(r, n, next) => {
+            let end = subtree_from(r, entries, Node(n.0 + 1))?;
+            if y_is_child(r, n, end) {
+                subtree_from(r, entries, Node(end as u8))
             } else {
                 Err(n)
             }
         }
-        4..=5 => {
-            if modal_right(r, entries, n) {
-                subtree_from(r, entries, Node(n.0 + 1))
-            } else {
-                Err(n)
-            }
-        }
-        6 => {
-            if variable_right(r, n) {
-                Ok(next)
-            } else {
-                Err(n)
-            }
-        }
-        7..=8 => {
-            if y_is_child(r, n, next) {
-                subtree_from(r, entries, Node(n.0 + 1))
-            } else {
-                Err(n)
-            }
-        }
+        4..=5 if modal_right(r, entries, n) => subtree_from(r, entries, Node(n.0 + 1)),
+        6 if variable_right(r, n) => Ok(next),
+        7..=8 if y_is_child(r, n, next) => subtree_from(r, entries, Node(n.0 + 1)),
         _ => Err(n),
     }
 }
@@ -144,9 +103,8 @@ fn syntax_fault(r: &[u8], entries: usize) -> usize
     requires { NodeOf r.now 0 }
     ensures { (result ≡ syntax_fault entries r.now) × (result ≤ 64) }
 {
-    let whole = subtree_from(r, entries, Node(0));
-    match whole {
-        Err(m) => m.0 as usize,
+    match subtree_from(r, entries, Node(0)) {
+        Err(m) => usize::from(m.0),
         Ok(e) => e,
     }
 }
@@ -157,10 +115,8 @@ fn binders_before(r: &[u8], n: usize) -> usize
     ensures { BindersCounted r.now n result }
 {
     let mut binders = 0;
-    let mut at = 0;
-    while at < n {
+    for at in 0..n {
         binders = binders_with(r, Node(at as u8), binders);
-        at += 1;
     }
     binders
 }
@@ -169,10 +125,7 @@ fn binders_before(r: &[u8], n: usize) -> usize
 fn is_binder_of(r: &[u8], n: Node, binders: usize, k: usize) -> bool
     ensures { result ≡ (is_binder r.now n.0 && eqb binders k) }
 {
-    if is_binder(r, n) {
-        return binders == k;
-    }
-    false
+    is_binder(r, n) && binders == k
 }
 
 // The node of the binder numbered k, or the number of nodes where there is none. Plain numbers: a rule that is not checked yet may ask for the binder
@@ -182,15 +135,13 @@ fn binder_place(r: &[u8], k: usize) -> u8
 {
     let count = narrow_at(r, 0);
     let mut binders = 0;
-    let mut n = 0;
-    while n < count {
+    for n in 0..count {
         if is_binder_of(r, Node(n), binders, k) {
             return n;
         }
         binders = binders_with(r, Node(n), binders);
-        n += 1;
     }
-    n
+    count
 }
 
 // The place just after node n's subtree, where its last child's subtree ends: it may be no node, and on bytes that are no rule the way to it may
@@ -198,19 +149,13 @@ fn binder_place(r: &[u8], k: usize) -> u8
 pub fn subtree_end(r: &[u8], n: Node) -> usize
     ensures { result ≡ subtree_end r.now n.0 }
 {
-    let mut at = n.0 as usize;
-    let mut left: usize = 64;
-    while 0 < left {
-        left -= 1;
-        let children = child_count(narrow_at(r, 1 + 3 * at));
-        if children == 0 {
-            return at + 1;
+    let mut at = usize::from(n.0);
+    for _step in 0..MOST_NODES {
+        match child_count(narrow_at(r, 1 + 3 * at)) {
+            0 => return at + 1,
+            1 => at += 1,
+            _ => at = byte_at(r, 3 + 3 * at),
         }
-        if children == 1 {
-            at += 1;
-            continue;
-        }
-        at = byte_at(r, 3 + 3 * at);
     }
     at
 }
@@ -221,7 +166,7 @@ fn below_binder(r: &[u8], k: usize, n: Node) -> bool
 {
     let binder = binder_place(r, k);
     if binder < n.0 {
-        return (n.0 as usize) < subtree_end(r, Node(binder));
+        return usize::from(n.0) < subtree_end(r, Node(binder));
     }
     false
 }
@@ -231,21 +176,12 @@ fn binding_faulty(r: &[u8], n: Node, binders: usize) -> bool
     requires { binders ≡ binders_before r.now n.0 }
     ensures { result ≡ binding_faulty r.now n.0 }
 {
-    let k = kind_at(r, n);
-    if k < 6 {
-        return false;
-    }
     let x = x_at(r, n);
-    if k == 6 {
-        return !below_binder(r, x, n);
+    match kind_at(r, n) {
+        6 => !below_binder(r, x, n),
+        7..=8 => x != binders || 6 <= binders,
+        _ => false,
     }
-    if 8 < k {
-        return false;
-    }
-    if x == binders {
-        return 6 <= binders;
-    }
-    true
 }
 
 // The lowest node that breaks the rules of binding, or the number of nodes.
@@ -254,15 +190,13 @@ fn lowest_faulty(r: &[u8]) -> usize
 {
     let count = byte_at(r, 0);
     let mut binders = 0;
-    let mut n = 0;
-    while n < count {
+    for n in 0..count {
         if binding_faulty(r, Node(n as u8), binders) {
             return n;
         }
         binders = binders_with(r, Node(n as u8), binders);
-        n += 1;
     }
-    n
+    count
 }
 
 // How many binders stand among node n and those before it; binders is the number before it.
@@ -271,9 +205,10 @@ fn binders_with(r: &[u8], n: Node, binders: usize) -> usize
     ensures { BindersCounted r.now (n.0 + 1) result }
 {
     if is_binder(r, n) {
-        return binders + 1;
+        binders + 1
+    } else {
+        binders
     }
-    binders
 }
 
 // Refusals 8, 9 and 10.
@@ -313,11 +248,7 @@ pub fn node(rule: &[u8], n: Node) -> Fields
 pub fn is_binder(rule: &[u8], n: Node) -> bool
     ensures { result ≡ is_binder rule.now n.0 }
 {
-    let k = kind_at(rule, n);
-    if 7 <= k {
-        return k < 9;
-    }
-    false
+    matches!(kind_at(rule, n), 7..=8)
 }
 
 // B, the number of binders.
@@ -331,6 +262,5 @@ pub fn binder_count(rule: &[u8]) -> u8
 pub fn bound_before(rule: &[u8], k: Variable, n: Node) -> bool
     ensures { result ≡ ltb (binder_node rule.now k.0) n.0 }
 {
-    let binder = binder_place(rule, k.0 as usize);
-    binder < n.0
+    binder_place(rule, usize::from(k.0)) < n.0
 }

@@ -1,9 +1,9 @@
 -- The digits of a number, found from the last to the first.
 use Prim.Native.Nat.{ℕ, zero, suc, ◌-◌, ◌/◌, ◌%◌, ◌^◌, ◌≤◌, ◌<◌}
 use mathlib.Core.Path.{◌≡◌, sym, ap, ◌∙◌, subst}
-use mathlib.Core.List.{List, ◌∷◌, ◌++◌, append-nil}
+use mathlib.Core.List.{List, ◌∷◌, ◌++◌}
 use native.Mathlib.Omega.{arith}
-use lib.ListN.{length, take, drop, set, length-drop, length-set, drop_of_length-le}
+use lib.ListN.{length, take, drop, set, length-drop, length-set}
 use lib.Seq.{append_snoc, drop_at, length-take-le, set_split, take_all}
 use Rattle.text.specs.Decimal.{digit_of, digits_of, decimal_of}
 use Rattle.text.proofs.Decimal.{digits_one, digits_more, tenth}
@@ -15,22 +15,10 @@ pub record DigitsFound (n : ℕ) (digits : List ℕ) (first rest : ℕ) : Type 0
   pub small : rest < 10 ^ suc first
   pub whole : digits_of (suc first) rest ++ drop (suc first) digits ≡ decimal_of n
 
-pub none_found : (n : ℕ) (digits : List ℕ) → n < 2 ^ 64 → length digits ≡ 20 → DigitsFound n digits 19 n
-none_found n digits h e = record {
-  length_is = e;
-  within = omega arith;
-  small = omega arith;
-  whole = ap (λ (l : List ℕ). digits_of 20 n ++ l) (drop_of_length-le digits {i = 20} (omega arith)) ∙ append-nil (digits_of 20 n);
-}
-
 drop_set : (l : List ℕ) (i v : ℕ) → i < length l → drop i (set l i v) ≡ v ∷ drop (suc i) l
 drop_set l i v h = ap (drop i) (set_split l i v h) ∙ drop_at (take i l) (v ∷ drop (suc i) l) i (length-take-le i l (omega arith))
 
 module _ {n : ℕ} {digits : List ℕ} where
-  pub not_first : (first : ℕ) {rest : ℕ} → DigitsFound n digits first rest → 10 ≤ rest → 1 ≤ first
-  not_first zero f h = absurd (omega (arith, f.small))
-  not_first (suc first) f h = omega arith
-
   pub one_found : (first rest : ℕ) → DigitsFound n digits first rest → 10 ≤ rest → DigitsFound n (set digits first (digit_of (rest % 10))) (first - 1) (rest / 10)
   one_found zero rest f h = absurd (omega (arith, f.small))
   one_found (suc first) rest f h =

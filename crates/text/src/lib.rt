@@ -55,7 +55,7 @@ impl<'a> Writer<'a> {
         }
     }
 
-    // The digits are found from the last to the first.
+    // The digits are found from the last to the first. A while loop: it ends with the number's digits, and not with the array.
     pub fn put_decimal(&mut self, n: u64)
         ensures place { self.new.place ≡ place_after (decimal_of n) self.old.place self.old.out.now }
         ensures out_after { self.new.out.now ≡ buffer_after (decimal_of n) self.old.place self.old.out.now }

@@ -1,14 +1,8 @@
 // Request 8: how many children a node of a kind has.
-use crate::input::Byte;
-use crate::{input, output};
-use std::io::{Result, Stdin, Stdout};
+use crate::connection::{Connection, Stop};
 
-pub(crate) fn answer(stdin: Stdin, stdout: Stdout) -> Result<bool> {
-    let Byte::Got(kind) = input::read_byte(stdin)? else {
-        return Ok(false);
-    };
-    output::text(stdout, b"children")?;
-    output::number(stdout, sheet::kinds::child_count(kind) as u64)?;
-    output::end_line(stdout)?;
-    Ok(true)
+pub(crate) fn answer(connection: &mut Connection) -> Result<(), Stop> {
+    let kind = connection.read_u8()?;
+    println!(connection.output; "children {}", sheet::kinds::child_count(kind))?;
+    Ok(())
 }

@@ -1,27 +1,16 @@
 // Request 2: the guard check of a blob.
-use crate::input::{Buffer, Number};
-use crate::{input, output};
-use std::io::{Result, Stdin, Stdout};
+use crate::connection::{Connection, Stop};
+use sheet::Numbered;
 
-fn guard(stdout: Stdout, sheet: &[u8]) -> Result<()> {
-    output::text(stdout, b"guard")?;
-    match calculus::guardedness::guard(sheet) {
-        Ok(b) => {
-            output::accepted(stdout)?;
-            output::truth(stdout, b)?;
-        }
-        Err(r) => {
-            output::refused(stdout, r)?;
-            output::truth(stdout, false)?;
-        }
-    }
-    output::end_line(stdout)
-}
-
-pub(crate) fn answer(stdin: Stdin, stdout: Stdout, sheet: &mut Buffer) -> Result<bool> {
-    let Number::Got(n) = input::read_blob(stdin, sheet)? else {
-        return Ok(false);
-    };
-    guard(stdout, input::prefix(sheet, n))?;
-    Ok(true)
+pub(crate) fn answer(connection: &mut Connection) -> Result<(), Stop> {
+    let sheet = connection.read_blob()?;
+    let guarded = calculus::guardedness::guard(&sheet);
+    println!(
+        connection.output;
+        "guard {} {} {}",
+        guarded.number(),
+        guarded.place(),
+        guarded.unwrap_or(false)
+    )?;
+    Ok(())
 }

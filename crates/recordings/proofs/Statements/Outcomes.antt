@@ -27,8 +27,10 @@ use Rattle.recordings.specs.Runs.{HoldsOn, most_actions}
 use Rattle.recordings.specs.Shortest.{fails_at, actions_below, either_fails, fewest, answer_found, answer_runs, answer_accepted, answer_sheet, shortest_of}
 use Rattle.recordings.specs.Shortest.{actions_in_range, reported_shortest}
 use Rattle.recordings.specs.RecordingsCorrect.{LongRun, ActionOver, NotRefused, BeginningOfEither, ShortestFailing, FirstHolds, AllHold}
-use Rattle.recordings.specs.declared.Answer.{Answer}
-use Rattle.recordings.specs.declared.Answer.TheVariants.{FirstFails, SecondFails, NoneFails, RunTooLong, NoSuchAction, Refused}
+use Rattle.recordings.specs.Shortest.{Answer}
+use Rattle.recordings.specs.declared.Failing.TheVariants.{First, Second}
+use Rattle.recordings.specs.declared.RecordingError.TheVariants.{RunTooLong, NoSuchAction, Refused}
+use Rattle.std.specs.Prelude.{Some, None}
 use Rattle.recordings.proofs.Plans.Runs.{all_below_lem, over_found, within}
 use Rattle.recordings.proofs.Statements.Beginnings.{fails_within, holding, shortest_taken}
 
@@ -40,16 +42,16 @@ place answer = (reported_shortest answer).place
 
 -- the cases of two recordings that are not refused
 pub data Found (s first second : List ℕ) : Answer → Type 0 where
-  first_fails : (n : ℕ) → length (take n first) ≡ n → ShortestFailing s first second (take n first) → Found s first second (FirstFails n)
+  first_fails : (n : ℕ) → length (take n first) ≡ n → ShortestFailing s first second (take n first) → Found s first second (Ok (Some (First n)))
   second_fails : (n : ℕ) → length (take n second) ≡ n → ShortestFailing s second first (take n second) → FirstHolds s first (take n second)
-      → Found s first second (SecondFails n)
-  none_fails : AllHold s first second → Found s first second NoneFails
+      → Found s first second (Ok (Some (Second n)))
+  none_fails : AllHold s first second → Found s first second (Ok None)
 
 -- all cases, with what is answered in each
 pub data Outcome (s first second : List ℕ) : Answer → Type 0 where
-  unread : (x : Refusal) → sheet_check s ≡ Err x → Outcome s first second (Refused x)
-  long : WellFormedSheet s → LongRun first second → Outcome s first second RunTooLong
-  over : WellFormedSheet s → (LongRun first second → ⊥) → ActionOver s first second → Outcome s first second NoSuchAction
+  unread : (x : Refusal) → sheet_check s ≡ Err x → Outcome s first second (Err (Refused x))
+  long : WellFormedSheet s → LongRun first second → Outcome s first second (Err RunTooLong)
+  over : WellFormedSheet s → (LongRun first second → ⊥) → ActionOver s first second → Outcome s first second (Err NoSuchAction)
   judged : {answer : Answer} → NotRefused s first second → Found s first second answer → Outcome s first second answer
 
 both_false : (a b : Bool) → (a || b) ≡ false → (a ≡ false) × (b ≡ false)
@@ -102,7 +104,7 @@ module _ (s first second : List ℕ) where
     size run e = length-take-le least run (fails_within s run least e)
 
     by_fewest : (b of-first : Bool) → leb least most_actions ≡ b → fails_at s first least ≡ of-first
-        → Found s first second (pick b (pick of-first (FirstFails least) (SecondFails least)) NoneFails)
+        → Found s first second (pick b (pick of-first (Ok (Some (First least))) (Ok (Some (Second least)))) (Ok None))
     by_fewest false of-first e f = none_fails (λ c p. before c p (omega (arith, leb-false least most_actions e, short c p)))
     by_fewest true true e f = first_fails least (size first f) (shortest_taken s first second j.first_kept least f before)
     by_fewest true false e f =
@@ -114,7 +116,7 @@ module _ (s first second : List ℕ) where
   module _ (k : WellFormedSheet s) where
     module _ (l : length first ≤ most_actions) (m : length second ≤ most_actions) where
       by_actions : (a b : Bool) → actions_below actions first ≡ a → actions_below actions second ≡ b
-          → Outcome s first second (pick (a && b) (answer_found s first second) NoSuchAction)
+          → Outcome s first second (pick (a && b) (answer_found s first second) (Err NoSuchAction))
       by_actions false b e f =
           let o = over_found actions first e in
           over k (not_long l m) (record { action = o.0; among = inl o.1; over = o.2 })

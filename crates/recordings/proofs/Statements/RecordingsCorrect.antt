@@ -11,8 +11,10 @@ use borrow.Author.Tests.{eqb-false}
 use Rattle.sheet.proofs.Acceptance.Numbers.{refused_number}
 use Rattle.recordings.specs.Shortest.{shortest_of, part_for, reported_shortest}
 use Rattle.recordings.specs.RecordingsCorrect.{NotRefused, ShortestFailing, FirstHolds, AllHold, ShortestAnswered, RecordingsCorrect}
-use Rattle.recordings.specs.declared.Answer.{Answer}
-use Rattle.recordings.specs.declared.Answer.TheVariants.{FirstFails, SecondFails, NoneFails, RunTooLong, NoSuchAction, Refused}
+use Rattle.recordings.specs.Shortest.{Answer}
+use Rattle.recordings.specs.declared.Failing.TheVariants.{First, Second}
+use Rattle.recordings.specs.declared.RecordingError.TheVariants.{RunTooLong, NoSuchAction, Refused}
+use Rattle.std.specs.Prelude.{Some, None, Ok, Err}
 use Rattle.recordings.proofs.Plans.Queries.{holds_exactly}
 use Rattle.recordings.proofs.Statements.Beginnings.{shortest_same, one_named}
 use Rattle.recordings.proofs.Statements.Outcomes.{Found, Outcome, outcome, number}
@@ -22,12 +24,12 @@ use Rattle.recordings.proofs.Statements.OwnPlan.{own_plan}
 
 -- tells apart the answers that name a recording, or none, from each other and from the refusals
 abbrev kind : Answer → ℕ
-kind (FirstFails n) = 1
-kind (SecondFails n) = 2
-kind NoneFails = 0
-kind RunTooLong = 3
-kind NoSuchAction = 3
-kind (Refused x) = 3
+kind (Ok (Some (First n))) = 1
+kind (Ok (Some (Second n))) = 2
+kind (Ok None) = 0
+kind (Err RunTooLong) = 3
+kind (Err NoSuchAction) = 3
+kind (Err (Refused x)) = 3
 
 abbrev size_of : Answer → ℕ
 size_of answer = (reported_shortest answer).size
@@ -59,9 +61,9 @@ module _ (s first second : List ℕ) where
       }
 
   module _ (j : NotRefused s first second) where
-    naming_first : (n : ℕ) → length (take n first) ≡ n → ShortestFailing s first second (take n first) → Answered (FirstFails n)
+    naming_first : (n : ℕ) → length (take n first) ≡ n → ShortestFailing s first second (take n first) → Answered (Ok (Some (First n)))
     naming_first n size f =
-        let c : Outcome s first second (FirstFails n) = Outcome.judged j (Found.first_fails n size f) in
+        let c : Outcome s first second (Ok (Some (First n))) = Outcome.judged j (Found.first_fails n size f) in
         record {
           in_order = in_order s first second c;
           forty_two = forty_two s first second c;
@@ -71,7 +73,7 @@ module _ (s first second : List ℕ) where
           size_is = sym size;
           first_named = λ m b. (
             λ h. (j, (sym (ap size_of h.0) ∙ sym size ∙ ap length h.1, subst (ShortestFailing s first second) h.1 f)),
-            λ g. let same : take n first ≡ b = shortest_same f g.1.1 in (ap FirstFails (sym size ∙ ap length same ∙ sym g.1.0), same),
+            λ g. let same : take n first ≡ b = shortest_same f g.1.1 in (ap (λ (k : ℕ). Ok (Some (First k))) (sym size ∙ ap length same ∙ sym g.1.0), same),
           );
           second_named = λ m b. (λ h. absurd (differs h.0 refl), λ g. absurd (one_named f g.1.1.0 g.1.1.1));
           none_fails = (λ h. absurd (differs h refl), λ g. absurd (f.fails (g.1 (take n first) (inl f.beginning))));
@@ -80,9 +82,9 @@ module _ (s first second : List ℕ) where
         }
 
     naming_second : (n : ℕ) → length (take n second) ≡ n → ShortestFailing s second first (take n second) → FirstHolds s first (take n second)
-        → Answered (SecondFails n)
+        → Answered (Ok (Some (Second n)))
     naming_second n size f holds =
-        let c : Outcome s first second (SecondFails n) = Outcome.judged j (Found.second_fails n size f holds) in
+        let c : Outcome s first second (Ok (Some (Second n))) = Outcome.judged j (Found.second_fails n size f holds) in
         record {
           in_order = in_order s first second c;
           forty_two = forty_two s first second c;
@@ -96,16 +98,16 @@ module _ (s first second : List ℕ) where
               j,
               (sym (ap size_of h.0) ∙ sym size ∙ ap length h.1, (subst (ShortestFailing s second first) h.1 f, subst (FirstHolds s first) h.1 holds)),
             ),
-            λ g. let same : take n second ≡ b = shortest_same f g.1.1.0 in (ap SecondFails (sym size ∙ ap length same ∙ sym g.1.0), same),
+            λ g. let same : take n second ≡ b = shortest_same f g.1.1.0 in (ap (λ (k : ℕ). Ok (Some (Second k))) (sym size ∙ ap length same ∙ sym g.1.0), same),
           );
           none_fails = (λ h. absurd (differs h refl), λ g. absurd (f.fails (g.1 (take n second) (inr f.beginning))));
           none_part = λ h. absurd (differs h refl);
           refused = λ h. absurd (h refl);
         }
 
-    naming_none : AllHold s first second → Answered NoneFails
+    naming_none : AllHold s first second → Answered (Ok None)
     naming_none all =
-        let c : Outcome s first second NoneFails = Outcome.judged j (Found.none_fails all) in
+        let c : Outcome s first second (Ok None) = Outcome.judged j (Found.none_fails all) in
         record {
           in_order = in_order s first second c;
           forty_two = forty_two s first second c;

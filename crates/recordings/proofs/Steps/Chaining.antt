@@ -1,6 +1,6 @@
 -- What the steps of the code that puts the chain of a run together show.
 use Prim.Native.Nat.{ℕ, suc, ◌+◌, ◌*◌, ◌/◌, ◌%◌, ◌<◌, ◌≤◌}
-use mathlib.Core.Path.{◌≡◌, refl, sym, ap, ◌∙◌, subst}
+use mathlib.Core.Path.{◌≡◌, sym, ap, ◌∙◌, subst}
 use mathlib.Core.List.{List, [], ◌∷◌, ◌++◌, append_assoc}
 use native.Mathlib.Omega.{arith}
 use lib.ListN.{length, get_or, take, drop, take-append-drop}
@@ -50,11 +50,11 @@ module _ (run : List ℕ) where
     abbrev pub Chaining : ℕ → ℕ → List ℕ → Type 0
     Chaining i at buffer = Placed 0 room (chain_bytes 0 (take i run)) at buffer
 
-    pub chaining_start : Chaining 0 0 room
+    pub chaining_start : {at : ℕ} {buffer : List ℕ} → at ≡ 0 → buffer ≡ room → Chaining 0 at buffer
     unfolding chain_bytes
-    chaining_start =
+    chaining_start p q =
         let fits : 0 + 0 ≤ length room = omega arith in
-        record { place_is = sym (place_fitting [] 0 room fits); buffer_is = λ h. sym (buffer_fitting [] 0 room fits); length_is = refl }
+        record { place_is = p ∙ sym (place_fitting [] 0 room fits); buffer_is = λ h. q ∙ sym (buffer_fitting [] 0 room fits); length_is = ap length q }
 
     pub chaining_next : (i : ℕ) {at place : ℕ} {e f : List ℕ} → i < length run → Chaining i at e
         → (place ≡ place_after (i ∷ get_or run i 0 ∷ (i + 1) ∷ []) at e) × (f ≡ buffer_after (i ∷ get_or run i 0 ∷ (i + 1) ∷ []) at e)

@@ -1,10 +1,11 @@
 -- What the steps of a judgement show.
 use Prim.Native.Nat.{ℕ, ◌*◌, ◌<◌, ◌≤◌}
 use mathlib.Core.Path.{◌≡◌, refl, sym, ap, ◌∙◌}
-use mathlib.Core.Bool.{Bool, false, not}
+use mathlib.Core.Bool.{Bool, not}
 use mathlib.Core.List.{List}
 use native.Mathlib.Omega.{arith}
 use lib.ListN.{length, take}
+use lib.Dec.{leb}
 use lib.Seq.{length-take-le}
 use borrow.Author.Tests.{le-leb, lt-leb}
 use Rattle.text.specs.Placing.{Puts}
@@ -47,7 +48,7 @@ told s run bytes room j p e =
 
 module _ (s run bytes : List ℕ) (n : ℕ) where
   -- the recording ends before
-  pub no_beginning : length run < n → false ≡ fails_at s run n
+  pub no_beginning : length run < n → leb n (length run) ≡ fails_at s run n
   unfolding fails_at
   no_beginning h = rw (lt-leb n (length run) h) refl
 

@@ -3,6 +3,7 @@ use Prim.Native.Nat.{ℕ, zero, suc, ◌+◌, ◌*◌, ◌<◌, ◌≤◌}
 use mathlib.Core.Path.{◌≡◌, refl, sym, ap, ◌∙◌}
 use mathlib.Core.Bool.{Bool, true, false, not, ◌&&◌}
 use mathlib.Core.List.{List}
+use Rattle.std.specs.Prelude.{Some, None}
 use native.Mathlib.Omega.{arith}
 use native.Mathlib.Decide.{dec_lt}
 use lib.Dec.{ltb, leb}
@@ -49,41 +50,44 @@ module _ (p : List ℕ) (i : ℕ) where
   unfolding faulty_elsewhere
   faulty_target h k = simp (lt-ltb _ _ h, le-ltb _ _ k)
 
+  -- what is faulty elsewhere is faulty
+  faulty_lem : faulty_elsewhere p i ≡ true → transition_faulty p i ≡ true
+  faulty_lem e =
+      elim (dec_lt (origin p i) (state_count p)) [ yes h ↦ sym (fine_origin h) ∙ e | no h ↦ faulty_origin (omega arith) ]
+
   in_range_lem : label p i < action_count p → target p i < state_count p → faulty_elsewhere p i ≡ not (rises p i)
   unfolding faulty_elsewhere
   in_range_lem h k = simp (lt-ltb _ _ h, lt-ltb _ _ k)
 
 module _ (faulty : List ℕ → ℕ → Bool) (p : List ℕ) (i : ℕ) where
-  pub step_faulty : faulty p i ≡ true → 0 ≡ step_at faulty p i
+  pub step_faulty : faulty p i ≡ true → None ≡ step_at faulty p i
   unfolding step_at
   step_faulty e = rw e
 
-  pub step_fine : faulty p i ≡ false → key_at p i + 1 ≡ step_at faulty p i
+  pub step_fine : faulty p i ≡ false → Some (key_at p i + 1) ≡ step_at faulty p i
   unfolding step_at
   step_fine e = rw e
 
-module _ (faulty : List ℕ → ℕ → Bool) (p : List ℕ) (i r : ℕ) (s : r ≡ step_at faulty p i) where
-  stepped : (b : Bool) → faulty p i ≡ b → r ≡ pick b 0 (key_at p i + 1)
+  -- a step that gives a number: the transition is fine, and it is the floor of the next
+  pub stepped : (x : ℕ) → Some x ≡ step_at faulty p i → (faulty p i ≡ false) × (x ≡ key_at p i + 1)
   unfolding step_at
-  stepped b e = s ∙ ap (λ (x : Bool). pick x 0 (key_at p i + 1)) e
-
-  pub stopped : r ≡ 0 → faulty p i ≡ true
-  stopped z = go (faulty p i) refl
+  stepped x s = go (faulty p i) s
     where
-      go : (b : Bool) → faulty p i ≡ b → faulty p i ≡ true
-      go true e = e
-      go false e = absurd (omega (arith, stepped false e))
+      go : (b : Bool) → Some x ≡ pick b None (Some (key_at p i + 1)) → (b ≡ false) × (x ≡ key_at p i + 1)
+      go true e = absurd (let z : ◌≡◌ {A = ℕ} 0 1 = cc in omega arith)
+      go false e = (refl, cc)
 
-  pub passed : (r ≡ 0 → ⊥) → faulty p i ≡ false
-  passed z = go (faulty p i) refl
+  pub stopped : None ≡ step_at faulty p i → faulty p i ≡ true
+  unfolding step_at
+  stopped s = go (faulty p i) s
     where
-      go : (b : Bool) → faulty p i ≡ b → faulty p i ≡ false
-      go true e = absurd (z (stepped true e))
-      go false e = e
+      go : (b : Bool) → None ≡ pick b None (Some (key_at p i + 1)) → b ≡ true
+      go true e = refl
+      go false e = absurd (let z : ◌≡◌ {A = ℕ} 0 1 = cc in omega arith)
 
-  pub next_floor : (r ≡ 0 → ⊥) → r ≡ floor_at p (i + 1)
+  pub next_floor : (x : ℕ) → Some x ≡ step_at faulty p i → x ≡ floor_at p (i + 1)
   unfolding floor_at
-  next_floor z = rw add-one (stepped false (passed z))
+  next_floor x s = rw add-one ((stepped x s).1)
 
 module _ (p : List ℕ) (bytes : (k : ℕ) → byte p k < 256) where
   rises_floor : (i : ℕ) → rises p i ≡ leb (floor_at p i) (key_at p i)
@@ -106,23 +110,20 @@ module _ (p : List ℕ) (bytes : (k : ℕ) → byte p k < 256) where
   unfolding faulty_elsewhere
   above_floor i e = leb-true _ _ (sym (rises_floor i) ∙ (and_parts (ltb (label p i) (action_count p) && ltb (target p i) (state_count p)) (rises p i) (not-false _ e)).1)
 
--- an origin is below S exactly where the key is below that of (S, 0, 0), that is where the next floor is at most that key
-module _ (p : List ℕ) (i r : ℕ) (s : r ≡ step_at faulty_elsewhere p i) where
-  pub step_within_lem : r ≤ key (state_count p) 0 0 → r ≡ step_at transition_faulty p i
-  unfolding step_at
-  step_within_lem low =
-      elim (dec_lt (origin p i) (state_count p)) [
-        | yes h ↦ stepped faulty_elsewhere p i r s _ (fine_origin p i h)
-        | no h ↦ go (faulty_elsewhere p i) refl h
-      ]
-    where
-      go : (b : Bool) → faulty_elsewhere p i ≡ b → (origin p i < state_count p → ⊥) → r ≡ step_at transition_faulty p i
-      go true e h = stepped faulty_elsewhere p i r s true e ∙ step_faulty transition_faulty p i (faulty_origin p i (omega arith))
-      go false e h = absurd (omega (arith, stepped faulty_elsewhere p i r s false e))
+pub step_none_lem : (p : List ℕ) (i : ℕ) → None ≡ step_at faulty_elsewhere p i → None ≡ step_at transition_faulty p i
+step_none_lem p i s = step_faulty transition_faulty p i (faulty_lem p i (stopped faulty_elsewhere p i s))
 
-  pub step_beyond : ((k : ℕ) → byte p k < 256) → key (state_count p) 0 0 < r → 0 ≡ step_at transition_faulty p i
+-- an origin is below S exactly where the key is below that of (S, 0, 0), that is where the next floor is at most that key
+module _ (p : List ℕ) (i x : ℕ) (s : Some x ≡ step_at faulty_elsewhere p i) where
+  pub step_within_lem : x ≤ key (state_count p) 0 0 → Some x ≡ step_at transition_faulty p i
+  step_within_lem low =
+      let told = stepped faulty_elsewhere p i x s in
+      let below : origin p i < state_count p = omega arith in
+      ap Some told.1 ∙ step_fine transition_faulty p i (sym (fine_origin p i below) ∙ told.0)
+
+  pub step_beyond : ((k : ℕ) → byte p k < 256) → key (state_count p) 0 0 < x → None ≡ step_at transition_faulty p i
   step_beyond bytes high =
-      let e = stepped faulty_elsewhere p i r s false (passed faulty_elsewhere p i r s (λ z. omega arith)) in
+      let told = stepped faulty_elsewhere p i x s in
       step_faulty transition_faulty p i (faulty_origin p i (omega (arith, bytes (5 + 3 * i), bytes (6 + 3 * i))))
 
 -- what a loop holds that leaves origins aside: no transition below i is faulty, if the floor is at most the key of (S, 0, 0)
@@ -136,15 +137,15 @@ unfolding floor_at
 climb_start p bytes = record { bytes = bytes; floor_is = refl; fine = λ _. seek_start _ _ _ refl }
 
 module _ {p : List ℕ} {floor i : ℕ} (c : Climbing p floor i) where
-  pub climb_next : (r : ℕ) → i < transition_count p → r ≡ step_at faulty_elsewhere p i → (r ≡ 0 → ⊥) → Climbing p r (i + 1)
-  climb_next r h s z =
-      let e = passed faulty_elsewhere p i r s z in
+  pub climb_next : (x : ℕ) → i < transition_count p → Some x ≡ step_at faulty_elsewhere p i → Climbing p x (i + 1)
+  climb_next x h s =
+      let told = stepped faulty_elsewhere p i x s in
       record {
         bytes = c.bytes;
-        floor_is = next_floor faulty_elsewhere p i r s z;
+        floor_is = next_floor faulty_elsewhere p i x s;
         fine = λ low.
-            seek_next (c.fine (omega (arith, above_floor p c.bytes i e, stepped faulty_elsewhere p i r s false e))) h
-            (passed transition_faulty p i r (step_within_lem p i r s low) z);
+            seek_next (c.fine (omega (arith, above_floor p c.bytes i told.0))) h
+            ((stepped transition_faulty p i x (step_within_lem p i x s low)).0);
       }
 
   pub climb_end : transition_count p ≤ i → floor ≤ key (state_count p) 0 0 → lowest_transition p ≡ transition_count p

@@ -8,12 +8,9 @@ use lib.Dec.{eqb}
 use borrow.Author.Tests.{lt-leb, eqb-true}
 use Rattle.sheet.specs.Bytes.{byte, word}
 use Rattle.sheet.specs.Contents.{head_length, entry_is}
-use Rattle.sheet.specs.Plan.{action_count}
-use Rattle.sheet.specs.Actions.{entry_count}
-use Rattle.sheet.specs.Reading.{plan_check, actions_check, rule_check, bodies_check, sheet_check, read_of, bodies_of}
-use Rattle.sheet.specs.declared.Refusal.{Refusal}
+use Rattle.sheet.specs.Reading.{sheet_check}
 use Rattle.sheet.specs.declared.Refusal.TheVariants.{TooShort}
-use Rattle.std.specs.Prelude.{Err, Ok}
+use Rattle.std.specs.Prelude.{Err}
 use Rattle.sheet.proofs.Checks.Checks.{and_parts}
 
 module _ (s : List ℕ) where
@@ -26,24 +23,3 @@ module _ (s : List ℕ) where
   pub sheet_short : length s < head_length → Err TooShort ≡ sheet_check s
   unfolding sheet_check
   sheet_short h = rw (lt-leb head_length (length s) h)
-
-  pub read_accepted : sheet_check s ≡ Ok tt → Ok (bodies_of s) ≡ read_of s
-  unfolding read_of
-  read_accepted e = rw e
-
-  pub read_refused : (x : Refusal) → sheet_check s ≡ Err x → Err x ≡ read_of s
-  unfolding read_of
-  read_refused x e = rw e
-
-module _ (p a r : List ℕ) where
-  pub bodies_plan : (x : Refusal) → plan_check p ≡ Err x → Err x ≡ bodies_check p a r
-  unfolding bodies_check
-  bodies_plan x e = rw e
-
-  pub bodies_actions : (x : Refusal) → plan_check p ≡ Ok tt → actions_check (action_count p) a ≡ Err x → Err x ≡ bodies_check p a r
-  unfolding bodies_check
-  bodies_actions x e f = rw (e, f)
-
-  pub bodies_rule : plan_check p ≡ Ok tt → actions_check (action_count p) a ≡ Ok tt → rule_check (entry_count a) r ≡ bodies_check p a r
-  unfolding bodies_check
-  bodies_rule e f = rw (e, f)

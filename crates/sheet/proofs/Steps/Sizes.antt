@@ -1,12 +1,12 @@
 -- What the tests of the reader's code say of the sizes that document 01 allows.
-use Prim.Native.Nat.{ℕ, ◌+◌, ◌*◌, ◌<◌, ◌≤◌}
+use Prim.Native.Nat.{ℕ, ◌+◌, ◌*◌, ◌≤◌}
 use mathlib.Core.Path.{◌≡◌}
-use mathlib.Core.Bool.{true, false}
+use mathlib.Core.Bool.{true}
 use mathlib.Core.List.{List}
 use lib.ListN.{length}
 use lib.Dec.{eqb, leb}
 use native.Mathlib.Omega.{arith}
-use borrow.Author.Tests.{le-leb, lt-leb, leb-true, eqb-true}
+use borrow.Author.Tests.{le-leb, leb-true, eqb-true}
 use Rattle.sheet.specs.Plan.{state_count, transition_count, plan_sized}
 use Rattle.sheet.specs.Actions.{entry_count, actions_sized}
 use Rattle.sheet.specs.Rule.{node_count, rule_sized}
@@ -26,22 +26,6 @@ module _ (p : List ℕ) where
   pub plan_room : plan_sized p ≡ true → 4 + 3 * transition_count p ≤ length p
   plan_room q = omega (arith, plan_limits q)
 
-  pub plan_short : length p < 4 → plan_sized p ≡ false
-  unfolding plan_sized
-  plan_short h = simp (lt-leb _ _ h)
-
-  pub plan_stateless : 4 ≤ length p → state_count p < 1 → plan_sized p ≡ false
-  unfolding plan_sized
-  plan_stateless h k = simp (le-leb _ _ h, lt-leb _ _ k)
-
-  pub plan_crowded : 4 ≤ length p → 1 ≤ state_count p → 128 < state_count p → plan_sized p ≡ false
-  unfolding plan_sized
-  plan_crowded h k l = simp (le-leb _ _ h, le-leb _ _ k, lt-leb _ _ l)
-
-  pub plan_long : 4 ≤ length p → 1 ≤ state_count p → state_count p ≤ 128 → 2048 < transition_count p → plan_sized p ≡ false
-  unfolding plan_sized
-  plan_long h k l m = simp (le-leb _ _ h, le-leb _ _ k, le-leb _ _ l, lt-leb _ _ m)
-
   pub plan_exact : 4 ≤ length p → 1 ≤ state_count p → state_count p ≤ 128 → transition_count p ≤ 2048 → plan_sized p ≡ eqb (length p) (4 + 3 * transition_count p)
   unfolding plan_sized
   plan_exact h k l m = simp (le-leb _ _ h, le-leb _ _ k, le-leb _ _ l, le-leb _ _ m)
@@ -52,14 +36,6 @@ module _ (a : List ℕ) where
   actions_limits q =
       let b = and_parts₃ (leb 1 (length a)) (leb (entry_count a) 32) (eqb (length a) (1 + 3 * entry_count a)) q in
       omega (arith, leb-true, eqb-true)
-
-  pub actions_empty : length a < 1 → actions_sized a ≡ false
-  unfolding actions_sized
-  actions_empty h = simp (lt-leb _ _ h)
-
-  pub actions_long : 1 ≤ length a → 32 < entry_count a → actions_sized a ≡ false
-  unfolding actions_sized
-  actions_long h k = simp (le-leb _ _ h, lt-leb _ _ k)
 
   pub actions_exact : 1 ≤ length a → entry_count a ≤ 32 → actions_sized a ≡ eqb (length a) (1 + 3 * entry_count a)
   unfolding actions_sized
@@ -75,18 +51,6 @@ module _ (r : List ℕ) where
   -- a rule of the right size has a root
   pub rule_root : rule_sized r ≡ true → NodeOf r 0
   rule_root q = let s = rule_limits q in record { small = s.2; among = s.1 }
-
-  pub rule_empty : length r < 1 → rule_sized r ≡ false
-  unfolding rule_sized
-  rule_empty h = simp (lt-leb _ _ h)
-
-  pub rule_nodeless : 1 ≤ length r → node_count r < 1 → rule_sized r ≡ false
-  unfolding rule_sized
-  rule_nodeless h k = simp (le-leb _ _ h, lt-leb _ _ k)
-
-  pub rule_long : 1 ≤ length r → 1 ≤ node_count r → 64 < node_count r → rule_sized r ≡ false
-  unfolding rule_sized
-  rule_long h k l = simp (le-leb _ _ h, le-leb _ _ k, lt-leb _ _ l)
 
   pub rule_exact : 1 ≤ length r → 1 ≤ node_count r → node_count r ≤ 64 → rule_sized r ≡ eqb (length r) (1 + 3 * node_count r)
   unfolding rule_sized

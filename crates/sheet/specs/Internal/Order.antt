@@ -1,6 +1,6 @@
 -- How the reader's loops follow the order of transitions: one number for the three bytes of a transition, and the least number that the
 -- next may have. Contracts of private functions cite these; no promise of a public call does.
-use Rattle.std.specs.Prelude.{ℕ, zero, suc, ◌+◌, ◌*◌, ◌<◌, ◌≡◌, Bool, not, ◌&&◌, List, length, ltb}
+use Rattle.std.specs.Prelude.{ℕ, zero, suc, ◌+◌, ◌*◌, ◌<◌, ◌≡◌, Bool, not, ◌&&◌, List, Option, Some, None, length, ltb}
 use Rattle.sheet.specs.Bytes.{pick}
 use Rattle.sheet.specs.Plan.{state_count, action_count, origin, label, target, rises}
 
@@ -21,9 +21,9 @@ floor_at p (suc i) = key_at p i + 1
 unfoldable pub faulty_elsewhere : List ℕ → ℕ → Bool
 faulty_elsewhere p i = not (ltb (label p i) (action_count p) && ltb (target p i) (state_count p) && rises p i)
 
--- 0 where transition i is faulty by this test, else the least number that the next may have
-unfoldable pub step_at : (List ℕ → ℕ → Bool) → List ℕ → ℕ → ℕ
-step_at faulty p i = pick (faulty p i) 0 (key_at p i + 1)
+-- the least number that the next transition may have, or none where transition i is faulty by this test
+unfoldable pub step_at : (List ℕ → ℕ → Bool) → List ℕ → ℕ → Option ℕ
+step_at faulty p i = pick (faulty p i) None (Some (key_at p i + 1))
 
 -- what a loop holds at transition i: S, A and the least number that it may have
 pub record Stepping (p : List ℕ) (states actions floor i : ℕ) : Type 0 where

@@ -1,15 +1,12 @@
-use native.Mathlib.Omega.{arith}
-use Rattle.recordings.proofs.Steps.Searching.{below_start, below_next, one_over, none_over}
+use Prim.Native.Nat.{◌<◌, ◌≤◌}
+use borrow.Author.Rules.{rules}
+use borrow.Author.Tests.{tests}
+use Rattle.std.proofs.lemmas.Iterator.{cases_from_all, YieldsList-from_slice}
+use Rattle.recordings.proofs.Steps.Searching.{all_tell}
 use Rattle.recordings.proofs.searching.all_below.Goals as goal
 
-pub loop-i-init : goal.loop-i-init
-loop-i-init c = below_start c.args.actions c.args.run.now
-
-pub returns-then-actions-run : goal.returns-then-actions-run
-returns-then-actions-run c = one_over c.args.actions c.args.run.now c.loop-i.i (omega arith) c.if-actions-run.true c.loop-i.invariant
-
-pub loop-i-preserved : goal.loop-i-preserved
-loop-i-preserved c = below_next c.args.actions c.args.run.now c.loop-i.i (omega arith) c.if-actions-run.false c.loop-i.invariant
-
 pub returns : goal.returns
-returns c = none_over c.args.actions c.args.run.now c.loop-i.i (omega arith) c.loop-i.invariant
+returns c =
+    all_tell c.args.actions c.args.run.now c.all.result
+    (cases_from_all _ _ c.all.result (λ action. action < c.args.actions) (λ action. c.args.actions ≤ action) c.all.ensures.ran (YieldsList-from_slice c.args.run.now cc)
+    (λ x q k. search (rules, tests)) (λ x q k. search (rules, tests)))

@@ -1,5 +1,5 @@
 use native.Mathlib.Omega.{arith}
-use mathlib.Core.Path.{sym, ◌∙◌}
+use mathlib.Core.Path.{◌≡◌, sym, ◌∙◌}
 use Rattle.sheet.proofs.Checks.Seeking.{seek_start, seek_here, seek_next, seek_end}
 use Rattle.sheet.proofs.actions.lowest_faulty.Goals as goal
 
@@ -13,4 +13,5 @@ pub loop-e-preserved : goal.loop-e-preserved
 loop-e-preserved c = seek_next c.loop-e.invariant (omega arith) (sym c.entry_faulty.ensures ∙ c.if-entry_faulty.false)
 
 pub returns : goal.returns
-returns c = (seek_end c.loop-e.invariant (omega arith), omega arith)
+returns c = let at_end : c.byte_at-count.result ≡ c.loop-e.e = omega arith in
+    (at_end ∙ seek_end c.loop-e.invariant (omega arith), omega arith)

@@ -1,10 +1,11 @@
--- `sheet::contents::entry_fits` meets its contract.
-use mathlib.Core.Path.{sym}
-use Rattle.sheet.proofs.Steps.Taken.{fits_kind, fits_other}
+use Rattle.std.proofs.Common.{rules}
+use Rattle.sheet.specs.Internal.Entry.{entry_fits}
 use Rattle.sheet.proofs.contents.entry_fits.Goals as goal
 
 pub returns-then-e-kind : goal.returns-then-e-kind
-returns-then-e-kind c = rw c.wide.ensures.0 (sym (fits_kind _ _ _ c.if-e-kind.true))
+unfolding entry_fits
+returns-then-e-kind c = search rules
 
-pub returns : goal.returns
-returns c = sym (fits_other _ _ _ c.if-e-kind.false)
+pub returns-else-e-kind : goal.returns-else-e-kind
+unfolding entry_fits
+returns-else-e-kind c = search rules

@@ -1,10 +1,11 @@
--- `sheet::contents::heading_at` meets its contract.
-use mathlib.Core.Path.{sym, ◌∙◌}
-use Rattle.sheet.proofs.Steps.Taken.{heading_edition, heading_other}
+use Rattle.std.proofs.Common.{rules}
+use Rattle.sheet.specs.Internal.Entry.{heading_at}
 use Rattle.sheet.proofs.contents.heading_at.Goals as goal
 
 pub returns-then-byte_at-eq1 : goal.returns-then-byte_at-eq1
-returns-then-byte_at-eq1 c = rw c.byte_at-then-byte_at-eq1.ensures.0 (sym (heading_edition _ _ (sym c.byte_at.ensures.0 ∙ c.if-byte_at-eq1.true)))
+unfolding heading_at
+returns-then-byte_at-eq1 c = search rules
 
-pub returns : goal.returns
-returns c = sym (heading_other _ _ (λ e. c.if-byte_at-eq1.false (c.byte_at.ensures.0 ∙ e)))
+pub returns-else-byte_at-eq1 : goal.returns-else-byte_at-eq1
+unfolding heading_at
+returns-else-byte_at-eq1 c = search rules

@@ -1,4 +1,4 @@
-use mathlib.Core.Path.{sym, ◌∙◌}
+use mathlib.Core.Path.{◌≡◌, sym, ◌∙◌}
 use native.Mathlib.Omega.{arith}
 use Rattle.sheet.specs.Rule.{binder_node}
 use Rattle.sheet.proofs.Checks.Seeking.{seek_start, seek_here, seek_next, seek_end}
@@ -21,4 +21,5 @@ loop-n-preserved c = let inv = c.loop-n.invariant in
     (c.binders_with-binders.ensures, seek_next inv.1 (omega arith) (rw (← inv.0.is) (sym c.is_binder_of.ensures ∙ c.if-is_binder_of.false)))
 
 pub returns : goal.returns
-returns c = seek_end c.loop-n.invariant.1 (omega arith)
+returns c = let at_end : c.narrow_at-count.result ≡ c.loop-n.n = omega arith in
+    at_end ∙ seek_end c.loop-n.invariant.1 (omega arith)

@@ -1,5 +1,4 @@
 -- `sheet::rule::binder_place` meets its contract. Of the loop: no node below n is binder k.
-use Prim.Native.Nat.{◌-◌}
 use Rattle.sheet.specs.Rule.{binder_node, binds_at}
 use Rattle.sheet.specs.Internal.Counting.{BindersCounted}
 use Rattle.sheet.proofs.Checks.Seeking.{Seeking}
@@ -7,6 +6,3 @@ use Rattle.sheet.proofs.rule.binder_place.Given as goal
 
 abbrev pub invariant-loop-n : goal.invariant-loop-n
 invariant-loop-n l = BindersCounted l.r l.n l.binders × Seeking (binds_at l.r l.k) l.count (binder_node l.r l.k) l.n
-
-abbrev pub decreases-loop-n : goal.decreases-loop-n
-decreases-loop-n l = l.count - l.n

@@ -1,4 +1,4 @@
-use mathlib.Core.Path.{sym, ◌∙◌}
+use mathlib.Core.Path.{◌≡◌, sym, ◌∙◌}
 use native.Mathlib.Omega.{arith}
 use Rattle.sheet.proofs.Checks.Seeking.{seek_start, seek_here, seek_next, seek_end}
 use Rattle.sheet.proofs.Steps.Nodes.{counted_none}
@@ -21,4 +21,5 @@ loop-n-preserved c = let seeking = c.loop-n.invariant.1 in
     (c.binders_with-binders.ensures, seek_next seeking (omega arith) (sym c.binding_faulty.ensures ∙ c.if-binding_faulty.false))
 
 pub returns : goal.returns
-returns c = (seek_end c.loop-n.invariant.1 (omega arith), omega arith)
+returns c = let at_end : c.byte_at-count.result ≡ c.loop-n.n = omega arith in
+    (at_end ∙ seek_end c.loop-n.invariant.1 (omega arith), omega arith)

@@ -1,5 +1,4 @@
 -- `sheet::rule::lowest_faulty` meets its contract. Of the loop: no node below n breaks the rules of binding.
-use Prim.Native.Nat.{◌-◌}
 use Rattle.sheet.specs.Rule.{binding_faulty, lowest_binding}
 use Rattle.sheet.specs.Internal.Counting.{BindersCounted}
 use Rattle.sheet.proofs.Checks.Seeking.{Seeking}
@@ -7,6 +6,3 @@ use Rattle.sheet.proofs.rule.lowest_faulty.Given as goal
 
 abbrev pub invariant-loop-n : goal.invariant-loop-n
 invariant-loop-n l = BindersCounted l.r l.n l.binders × Seeking (binding_faulty l.r) l.count (lowest_binding l.r) l.n
-
-abbrev pub decreases-loop-n : goal.decreases-loop-n
-decreases-loop-n l = l.count - l.n

@@ -4,8 +4,5 @@ use Prim.Native.Nat.{◌-◌, ◌+◌, ◌≤◌, ◌<◌}
 use Rattle.sheet.specs.Rule.{end_within, subtree_end}
 use Rattle.sheet.proofs.rule.subtree_end.Given as goal
 
-abbrev pub invariant-loop-left : goal.invariant-loop-left
-invariant-loop-left l = (l.left ≤ 64) × (l.at < 256 + (64 - l.left)) × (end_within l.left l.r l.at ≡ subtree_end l.r l.initial.at)
-
-abbrev pub decreases-loop-left : goal.decreases-loop-left
-decreases-loop-left l = l.left
+abbrev pub invariant-loop-step : goal.invariant-loop-step
+invariant-loop-step l = (l._step ≤ 64) × (l.at < 256 + l._step) × (end_within (64 - l._step) l.r l.at ≡ subtree_end l.r l.initial.at)

@@ -6,16 +6,13 @@ use Rattle.sheet.proofs.Steps.Subtrees.{root_fault, root_bound}
 use Rattle.sheet.proofs.rule.syntax_fault.Goals as goal
 
 pub returns-in-Err : goal.returns-in-Err
-returns-in-Err c =
-    let at-whole = c in
-    let at-subtree-from = at-whole in (
-      ap first_fault (sym at-whole.in-Err.is) ∙ root_fault _ _ _ at-subtree-from.subtree_from-whole.ensures,
-      omega (arith, ap first_fault at-whole.in-Err.is, root_bound _ _ _ at-subtree-from.subtree_from-whole.ensures),
-    )
+returns-in-Err c = (
+  c.from.ensures ∙ (ap first_fault (sym c.in-Err.is) ∙ root_fault _ _ _ c.subtree_from.ensures),
+  omega (arith, ap first_fault c.in-Err.is, root_bound _ _ _ c.subtree_from.ensures),
+)
 
 pub returns-in-Ok : goal.returns-in-Ok
-returns-in-Ok c =
-    let at-subtree-from = c in (
-      ap first_fault (sym c.in-Ok.is) ∙ root_fault _ _ _ at-subtree-from.subtree_from-whole.ensures,
-      omega (arith, ap first_fault c.in-Ok.is, root_bound _ _ _ at-subtree-from.subtree_from-whole.ensures),
-    )
+returns-in-Ok c = (
+  ap first_fault (sym c.in-Ok.is) ∙ root_fault _ _ _ c.subtree_from.ensures,
+  omega (arith, ap first_fault c.in-Ok.is, root_bound _ _ _ c.subtree_from.ensures),
+)
