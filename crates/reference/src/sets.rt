@@ -5,7 +5,7 @@ ghost use Rattle.sheet.specs.Rule.{node_count};
 ghost use Rattle.reference.specs.Internal.Evaluating.{Restartable, Restarted};
 
 use sheet::rule::{node, node_count};
-use sheet::{Fields, Node, State, Variable};
+use sheet::{Node, State, Variable};
 use std::marker::Model;
 use std::ops::{BitAnd, BitOr, BitXor};
 
