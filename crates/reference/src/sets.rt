@@ -5,7 +5,7 @@ ghost use Rattle.sheet.specs.Rule.{node_count};
 ghost use Rattle.reference.specs.Internal.Evaluating.{Restartable, Restarted};
 
 use sheet::rule::{node, node_count};
-use sheet::{Fields, Node, State, Variable};
+use sheet::{Node, State, Variable};
 use std::marker::Model;
 use std::ops::{BitAnd, BitOr, BitXor};
 
@@ -35,13 +35,12 @@ impl States {
         requires { count ≤ 64 }
         ensures { result ≡ 2 ^ count - 1 }
     {
-        States {
-            word: if count < 64 {
-                (1 << count) - 1
-            } else {
-                u64::MAX
-            },
-        }
+        let word = if count < 64 {
+            (1 << count) - 1
+        } else {
+            u64::MAX
+        };
+        States { word }
     }
 
     pub(crate) fn contains(self, s: State) -> bool
