@@ -1,5 +1,6 @@
 // Request 7: a pattern becomes a rule body.
 use crate::connection::{Connection, Stop};
+use sheet::Numbered;
 
 pub(crate) fn answer(connection: &mut Connection) -> Result<(), Stop> {
     let sheet = connection.read_blob()?;
@@ -11,7 +12,7 @@ pub(crate) fn answer(connection: &mut Connection) -> Result<(), Stop> {
         "pattern {} {} {}",
         length.number(),
         length.place(),
-        length.length()
+        length.unwrap_or(0)
     )?;
     connection.write_bytes("out", &out)
 }
