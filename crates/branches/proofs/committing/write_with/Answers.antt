@@ -1,6 +1,8 @@
 use Prim.Native.Nat.{ℕ}
 use native.Mathlib.Omega.{arith}
-use mathlib.Core.Path.{ap}
+use mathlib.Core.Path.{ap, ap₂, ◌∙◌}
+use borrow.Author.Rules.{rules}
+use Rattle.text.specs.Placing.{place_after, buffer_after}
 use lib.ListN.{length}
 use Rattle.branches.proofs.Steps.Committing.{no_room, put_whole}
 use Rattle.branches.proofs.committing.write_with.Goals as goal
@@ -19,10 +21,15 @@ pub overflow_cast-rule : goal.overflow_cast-rule
 overflow_cast-rule c = omega (arith, ap (length {A = ℕ}) c.actions_body-actions.ensures, ap (length {A = ℕ}) c.rule_body-rule.ensures, c.requires)
 
 pub returns : goal.returns
-returns c = let a = c.args in
+returns c =
+    let a = c.args in
+    let head = c.head_of-head.result in
+    let put =
     put_whole a.sheet.now a.plan.now a.out.now c.actions_body-actions.ensures c.rule_body-rule.ensures
-    c.if-out-plan.false c.head_of-head.ensures
-    (c.put-after_head.ensures.value, c.put-after_head.ensures.out_after)
-    (c.put-after_plan.ensures.value, c.put-after_plan.ensures.out_after)
-    (c.put-after_actions.ensures.value, c.put-after_actions.ensures.out_after)
-    (c.put-end.ensures.value, c.put-end.ensures.out_after)
+    c.if-out-plan.false c.head_of-head.ensures (
+      c.put.ensures.place ∙ ap₂ (place_after head) c.new-writer.ensures.place c.new-writer.ensures.out_after,
+      c.put.ensures.out_after ∙ ap₂ (buffer_after head) c.new-writer.ensures.place c.new-writer.ensures.out_after,
+    )
+    (c.put-2.ensures.place, c.put-2.ensures.out_after) (c.put-3.ensures.place, c.put-3.ensures.out_after)
+    (c.put-4.ensures.place, c.put-4.ensures.out_after) in
+    (put.0, search (rules, put.1))
