@@ -13,7 +13,13 @@ pub(crate) fn answer(connection: &mut Connection) -> Result<(), Stop> {
     if answer.number() == 0 {
         // a bench for each state
         for (bench, _) in granted.benches.iter().zip(&states) {
-            let Bench { need, grant, short, verdict, visits } = *bench;
+            let Bench {
+                need,
+                grant,
+                short,
+                verdict,
+                visits,
+            } = *bench;
             println!(connection.output; "bench {need} {grant} {short} {verdict} {visits}")?;
         }
     }

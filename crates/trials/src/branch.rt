@@ -30,8 +30,7 @@ pub(crate) fn answer_propose(connection: &mut Connection) -> Result<(), Stop> {
         length,
         tag,
     } = proposed.proposal();
-    println!(
-        connection.output;
+    println!(connection.output;
         "propose {} {} {insertion} {length} {tag}",
         proposed.number(),
         proposed.place()
@@ -45,12 +44,6 @@ pub(crate) fn answer_commit(connection: &mut Connection) -> Result<(), Stop> {
     let proposal = read_proposal(connection)?;
     let mut out = connection.read_buffer()?;
     let length = branches::committing::commit(&sheet, branch, proposal, &mut out);
-    println!(
-        connection.output;
-        "commit {} {} {}",
-        length.number(),
-        length.place(),
-        length.length()
-    )?;
+    connection.write_answer("commit", length)?;
     connection.write_bytes("out", &out)
 }

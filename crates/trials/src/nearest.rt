@@ -5,8 +5,7 @@ pub(crate) fn answer(connection: &mut Connection) -> Result<(), Stop> {
     let sheet = connection.read_blob()?;
     let mut table = connection.read_blob()?;
     let closest = closest::finding::find_closest(&sheet, &mut table);
-    println!(
-        connection.output;
+    println!(connection.output;
         "closest {} {} {} {} {} {}",
         closest.number(),
         closest.place(),
