@@ -4,5 +4,4 @@ pub mod Reading
 pub mod Plans
 -- what the steps of the code show
 pub mod Steps
--- the call
 pub mod Statements

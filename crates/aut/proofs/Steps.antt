@@ -1,4 +1,4 @@
-pub mod Places
+pub mod Pieces
 pub mod Digits
 pub mod HeldLabels
 pub mod HeldKeys
@@ -6,7 +6,6 @@ pub mod KeyOrder
 pub mod Lines
 pub mod Adding
 pub mod Passing
-pub mod FirstLines
 pub mod Writing
 pub mod Checking
 pub mod Answering

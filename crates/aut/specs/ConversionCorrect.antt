@@ -7,8 +7,7 @@ use Rattle.sheet.specs.WellFormed.{WellFormedPlan}
 use Rattle.sheet.specs.TransitionSystem.{LabelledTransition, plan_of}
 use Rattle.aut.specs.Texts.{FirstLine, TransitionLine, ReadsText}
 use Rattle.aut.specs.Plans.{labels_of, transitions_of, SaidBy, LabelsNumbered, TransitionsMerged, body_of}
-use Rattle.aut.specs.Converting.{reported_conversion, Converts}
-use Rattle.aut.specs.declared.Converted.{Converted}
+use Rattle.aut.specs.Converting.{Converted, reported_conversion, Converts}
 
 -- no 37: the text is readable, its first state is 0, and it has as many lines after the first as it says
 pub record WellFormedText (text : List ℕ) (h : FirstLine) (xs : List TransitionLine) : Type 0 where

@@ -1,13 +1,17 @@
 -- Document 02 (h): "Turn one into a plan body." What the call answers and leaves, for every text and every output.
-use Rattle.std.specs.Prelude.{ℕ, ◌≡◌, Bool, true, ◌&&◌, List, [], ◌∷◌, ◌++◌, eqb, ltb, leb, length, drop}
+use Rattle.std.specs.Prelude.{ℕ, ◌≡◌, Bool, true, ◌&&◌, List, [], ◌∷◌, ◌++◌, eqb, ltb, leb, length, drop, Result, Ok, Err}
 use Rattle.sheet.specs.Bytes.{pick}
 use Rattle.sheet.specs.Refusals.{number_of, place_of}
 use Rattle.sheet.specs.declared.Refusal.TheVariants as SheetRefusal
 use Rattle.aut.specs.Texts.{FirstLine, TransitionLine}
 use Rattle.aut.specs.Reading.{TextReading, unreadable, readable, reading_of}
 use Rattle.aut.specs.Plans.{labels_of, transitions_of, body_of}
-use Rattle.aut.specs.declared.Converted.{Converted}
-use Rattle.aut.specs.declared.Converted.TheVariants.{Wrote, Malformed, StateOutOfRange, OverLimits, OutputShort}
+use Rattle.aut.specs.declared.ConvertError.{ConvertError}
+use Rattle.aut.specs.declared.ConvertError.TheVariants.{Malformed, StateOutOfRange, OverLimits, OutputShort}
+
+-- what the converter answers: the length of the plan body that it wrote, or why it turned its input down
+abbrev pub Converted : Type 0
+Converted = Result ℕ ConvertError
 
 -- no "transition count other than the number of lines after the first, or a first state other than 0"
 abbrev pub first_line_right : FirstLine → List TransitionLine → Bool
@@ -33,12 +37,13 @@ answer_text h xs room =
     pick (first_line_right h xs)
     (pick (states_in_range h xs)
     (pick (within_limits h xs)
-    (pick (leb (length (body_of h.states xs)) room) (Wrote (length (body_of h.states xs))) OutputShort) OverLimits) StateOutOfRange)
-    Malformed
+    (pick (leb (length (body_of h.states xs)) room) (Ok (length (body_of h.states xs))) (Err OutputShort)) (Err OverLimits))
+    (Err StateOutOfRange))
+    (Err Malformed)
 
 -- "It refuses unreadable text .. with 37"
 abbrev pub answer_reading : TextReading → ℕ → Converted
-answer_reading unreadable room = Malformed
+answer_reading unreadable room = Err Malformed
 answer_reading (readable h xs) room = answer_text h xs room
 
 -- what the call answers for every text and output of so many bytes
@@ -53,11 +58,8 @@ text_body (readable h xs) = body_of h.states xs
 -- the body at the front of the output; document 02 (c), "Here and in later requests": "output bytes past what is written stay unchanged";
 -- document 01: a refused call "changes no buffer"
 abbrev pub leaves : List ℕ → List ℕ → Converted → List ℕ
-leaves body out (Wrote n) = body ++ drop n out
-leaves body out Malformed = out
-leaves body out StateOutOfRange = out
-leaves body out OverLimits = out
-leaves body out OutputShort = out
+leaves body out (Ok n) = body ++ drop n out
+leaves body out (Err x) = out
 
 -- the output buffer after the call
 unfoldable pub output_after : List ℕ → List ℕ → List ℕ
@@ -72,12 +74,12 @@ pub record ConversionReport : Type 0 where
 -- document 01: "An accepted call gives number 0 and place 0."; on a refusal its number, "Other places are 0.", and "lengths and any further
 -- result number 0"
 abbrev pub reported_conversion : Converted → ConversionReport
-reported_conversion (Wrote n) = record { number = 0; place = 0; size = n }
-reported_conversion Malformed = record { number = 37; place = 0; size = 0 }
-reported_conversion StateOutOfRange = record { number = 38; place = 0; size = 0 }
-reported_conversion OverLimits = record { number = 39; place = 0; size = 0 }
+reported_conversion (Ok n) = record { number = 0; place = 0; size = n }
+reported_conversion (Err Malformed) = record { number = 37; place = 0; size = 0 }
+reported_conversion (Err StateOutOfRange) = record { number = 38; place = 0; size = 0 }
+reported_conversion (Err OverLimits) = record { number = 39; place = 0; size = 0 }
 -- document 01: "22: output buffer too short (calls that write a sheet or a body)."
-reported_conversion OutputShort =
+reported_conversion (Err OutputShort) =
     record { number = number_of SheetRefusal.OutputShort; place = place_of SheetRefusal.OutputShort; size = 0 }
 
 -- what the call reports for every text and output

@@ -1,5 +1,5 @@
 pub mod Digits
-pub mod Places
+pub mod Pieces
 pub mod Held
 pub mod Keys
 pub mod Passing

@@ -1,67 +1,25 @@
 // Numbers of any size, by their digits in the text.
-ghost use Rattle.std.specs.Prelude.{◌≡◌, ◌+◌, ◌-◌, ◌<◌, ◌≤◌, ◌^◌, min, length};
-ghost use Rattle.sheet.specs.Bytes.{slice};
+ghost use Rattle.std.specs.Prelude.{◌≡◌, min};
 ghost use Rattle.text.specs.Numerals.{decimal_value};
-ghost use Rattle.aut.specs.Internal.Digits.{lower_digits, below_digits};
+ghost use Rattle.aut.specs.Internal.Digits.{below_digits};
 
-// Of n digits at a and n at b.
-fn lower(text: &[u8], a: usize, b: usize, n: usize) -> bool
-    requires { (a + n ≤ length text.now) × (b + n ≤ length text.now) }
-    ensures { result ≡ lower_digits (slice text.now a n) (slice text.now b n) }
+// The number of some digits is below that of others: they are fewer, or as many and lower at the first place where they differ.
+pub(crate) fn below(digits: &[u8], others: &[u8]) -> bool
+    ensures { result ≡ below_digits digits.now others.now }
 {
-    let mut i = 0;
-    while i < n {
-        if text[a + i] < text[b + i] {
-            return true;
-        }
-        if text[b + i] < text[a + i] {
-            return false;
-        }
-        i += 1;
-    }
-    false
+    digits.len() < others.len() || digits.len() == others.len() && digits < others
 }
 
-// The number of the m digits at a is below that of the n digits at b.
-pub(crate) fn below(text: &[u8], a: usize, m: usize, b: usize, n: usize) -> bool
-    requires { (a + m ≤ length text.now) × (b + n ≤ length text.now) }
-    ensures { result ≡ below_digits (slice text.now a m) (slice text.now b n) }
+// The number of the digits, or the bound where it is greater.
+pub(crate) fn value(digits: &[u8], bound: usize) -> usize
+    ensures { result ≡ min (decimal_value digits.now) bound }
 {
-    if m < n {
-        return true;
+    let mut value: usize = 0;
+    for digit in digits {
+        value = value
+            .saturating_mul(10)
+            .saturating_add(usize::from(digit.saturating_sub(b'0')))
+            .min(bound);
     }
-    if n < m {
-        return false;
-    }
-    lower(text, a, b, m)
-}
-
-fn digit(b: u8) -> usize
-    ensures { (result ≡ b - 48) × (result < 256) }
-{
-    if b < b'0' {
-        return 0;
-    }
-    (b - b'0') as usize
-}
-
-// The number of the n digits at a place, or the bound where it is greater.
-pub(crate) fn value(text: &[u8], at: usize, n: usize, bound: usize) -> usize
-    requires { (at + n ≤ length text.now) × (bound + 256 < 2 ^ 64) }
-    ensures { result ≡ min (decimal_value (slice text.now at n)) bound }
-{
-    let mut v = 0;
-    let mut i = 0;
-    while i < n {
-        let d = digit(text[at + i]);
-        if bound / 10 < v {
-            return bound;
-        }
-        v = 10 * v + d;
-        if bound < v {
-            return bound;
-        }
-        i += 1;
-    }
-    v
+    value
 }

@@ -1,137 +1,119 @@
-// Labels, held as the places where they first stand, with their checksums. A label ends at a quote mark.
-ghost use Rattle.std.specs.Prelude.{◌≡◌, ◌++◌, ◌∷◌, [], ◌+◌, ◌<◌, ◌≤◌, ltb, length, take, get_or};
-ghost use Rattle.sheet.specs.Bytes.{pick};
-ghost use Rattle.text.specs.Comparing.{same_text};
-ghost use Rattle.aut.specs.Plans.{label_number};
-ghost use Rattle.aut.specs.Internal.Held.{label_from, labels_held, goes_on, mixed, sum_of, Holds};
+// Labels, numbered by first appearance.
+ghost use Rattle.std.specs.Prelude.{◌≡◌, ◌<◌, ◌≤◌, [], length};
+ghost use Rattle.std.specs.List.{position_or_len};
+ghost use Rattle.aut.specs.Plans.{label_number, with_label};
+ghost use Rattle.aut.specs.Internal.Held.{mixed, sum_of, is_held};
 
-// A byte of a label stands at a place.
-fn goes_on(text: &[u8], i: usize) -> bool
-    ensures { result ≡ goes_on text.now i }
+use std::marker::Model;
+
+// Room for one label more than a plan may have.
+const LABEL_ROOM: usize = 256;
+
+// A hint for each slot of checksums, four times as many as labels.
+const HINT_ROOM: usize = 1024;
+
+fn mix(sum: u32, byte: u8) -> u32
+    ensures { result ≡ mixed sum byte }
 {
-    if i < text.len() {
-        if text[i] == b'"' {
-            return false;
-        }
-        return text[i] != b'\n';
-    }
-    false
+    sum.wrapping_mul(31).wrapping_add(u32::from(byte))
 }
 
-// The labels at two places are the same.
-fn same_label(text: &[u8], a: usize, b: usize) -> bool
-    ensures { result ≡ same_text (label_from text.now a) (label_from text.now b) }
+// The checksum of a label: labels with different ones are different.
+fn checksum(label: &[u8]) -> u32
+    ensures { result ≡ sum_of label.now }
 {
-    let mut i = a;
-    let mut j = b;
-    while goes_on(text, i) {
-        if !goes_on(text, j) {
-            return false;
-        }
-        if text[i] != text[j] {
-            return false;
-        }
-        i += 1;
-        j += 1;
-    }
-    !goes_on(text, j)
-}
-
-fn mix(sum: u32, b: u8) -> u32
-    ensures { result ≡ mixed sum b }
-{
-    ((sum as u64 * 31 + b as u64) % 4294967296) as u32
-}
-
-// The checksum of the label at a place.
-pub(crate) fn label_sum(text: &[u8], at: usize) -> u32
-    ensures { result ≡ sum_of (label_from text.now at) }
-{
-    let mut sum: u32 = 0;
-    let mut i = at;
-    while goes_on(text, i) {
-        sum = mix(sum, text[i]);
-        i += 1;
+    let mut sum = 0;
+    for byte in label {
+        sum = mix(sum, *byte);
     }
     sum
 }
 
-// The label at a place, with this checksum, is label i of the count labels held.
-fn is_label(
-    text: &[u8],
-    places: &[usize],
-    sums: &[u32],
-    count: usize,
-    i: usize,
-    at: usize,
+// A label and its checksum.
+#[derive(Clone, Copy)]
+pub(crate) struct Held<'t> {
+    label: &'t [u8],
     sum: u32,
-) -> bool
-    requires count_in_bounds { (count ≤ length places.now) × ((count ≤ length sums.now) × (i < count)) }
-    requires holds { Holds text.now (take count places.now) (take count sums.now) × (sum ≡ sum_of (label_from text.now at)) }
-    ensures { result ≡ same_text (label_from text.now at) (label_from text.now (get_or places.now i 0)) }
-{
-    if sums[i] != sum {
-        return false;
-    }
-    same_label(text, at, places[i])
 }
 
-// The number of the label at a place among the count labels held, or their count: one is tried after the other.
-fn search(text: &[u8], places: &[usize], sums: &[u32], count: usize, at: usize, sum: u32) -> usize
-    requires count_in_bounds { (count ≤ length places.now) × (count ≤ length sums.now) }
-    requires holds { Holds text.now (take count places.now) (take count sums.now) × (sum ≡ sum_of (label_from text.now at)) }
-    ensures { result ≡ label_number (label_from text.now at) (labels_held text.now (take count places.now)) }
+// It is this label, with this checksum.
+fn is_held(held: &Held, label: &[u8], sum: u32) -> bool
+    ensures { result ≡ is_held label.now sum held.now }
 {
-    let mut i = 0;
-    while i < count {
-        if is_label(text, places, sums, count, i, at, sum) {
-            return i;
+    held.sum == sum && held.label == label
+}
+
+// The place of the first that is this label, or their number.
+fn search(held: &[Held], label: &[u8], sum: u32) -> usize
+    requires { length held.now ≤ 256 }
+    ensures { result ≡ position_or_len (is_held label.now sum) held.now }
+{
+    held.iter()
+        .position(|held| is_held(held, label, sum))
+        .unwrap_or(held.len())
+}
+
+// The labels held. A hint is the number that a label of the same slot had last: it is tried first, and may be wrong.
+#[derive(Drop)]
+pub(crate) struct Labels<'t> {
+    held: [Held<'t>; LABEL_ROOM],
+    count: usize,
+    hints: [u8; HINT_ROOM],
+}
+
+impl<'t> Model for Labels<'t> {
+    ghost use Rattle.std.specs.Prelude.{ℕ, List, take};
+    ghost use Rattle.aut.specs.Internal.Held.{labels_in, Holding};
+
+    ghost Value = { List (List ℕ) };
+
+    ghost view = { λ x. labels_in (take x.count x.held) };
+
+    ghost invariant = { λ x. Holding x.held x.count };
+}
+
+impl<'t> Labels<'t> {
+    pub(crate) fn new() -> Self
+        ensures { result ≡ [] }
+    {
+        Labels {
+            held: [Held { label: &[], sum: 0 }; LABEL_ROOM],
+            count: 0,
+            hints: [0; HINT_ROOM],
         }
-        i += 1;
     }
-    i
-}
 
-// The same; a number that may be the label's is tried first.
-pub(crate) fn find(
-    text: &[u8],
-    places: &[usize],
-    sums: &[u32],
-    hint: usize,
-    count: usize,
-    at: usize,
-    sum: u32,
-) -> usize
-    requires count_in_bounds { (count ≤ length places.now) × (count ≤ length sums.now) }
-    requires holds { Holds text.now (take count places.now) (take count sums.now) × (sum ≡ sum_of (label_from text.now at)) }
-    ensures { result ≡ label_number (label_from text.now at) (labels_held text.now (take count places.now)) }
-{
-    if hint < count {
-        if is_label(text, places, sums, count, hint, at, sum) {
+    pub(crate) fn len(&self) -> usize
+        ensures { result ≡ length self.now }
+    {
+        self.count
+    }
+
+    // The number of a label, or how many are held where it is none of them.
+    fn find(&self, label: &[u8], sum: u32, hint: usize) -> usize
+        requires { sum ≡ sum_of label.now }
+        ensures { result ≡ label_number label.now self.now }
+    {
+        if hint < self.count && is_held(&self.held[hint], label, sum) {
             return hint;
         }
+        search(&self.held[..self.count], label, sum)
     }
-    search(text, places, sums, count, at, sum)
-}
 
-// The label at a place, whose number and checksum these are, is held too; the new count.
-pub(crate) fn hold(
-    places: &mut [usize],
-    sums: &mut [u32],
-    count: usize,
-    number: usize,
-    at: usize,
-    sum: u32,
-) -> usize
-    requires { (count < length places.old) × (count < length sums.old) }
-    ensures places_after { take result places.new ≡ pick (ltb number count) (take count places.old) (take count places.old ++ at ∷ []) }
-    ensures sums_after { take result sums.new ≡ pick (ltb number count) (take count sums.old) (take count sums.old ++ sum ∷ []) }
-    ensures lower_bound { (count ≤ result) × (result ≤ count + 1) }
-{
-    places[count] = at;
-    sums[count] = sum;
-    if number < count {
-        return count;
+    // The number of a label, which is held from now on.
+    pub(crate) fn number_of(&mut self, label: &'t [u8]) -> usize
+        requires { length self.old < 256 }
+        ensures number { result ≡ label_number label.now self.old }
+        ensures after { self.new ≡ with_label label.now self.old }
+    {
+        let sum = checksum(label);
+        let slot = (sum % 1024) as usize;
+        let number = self.find(label, sum, usize::from(self.hints[slot]));
+        self.hints[slot] = number as u8;
+        if number == self.count {
+            self.held[number] = Held { label, sum };
+            self.count += 1;
+        }
+        number
     }
-    count + 1
 }

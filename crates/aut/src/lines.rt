@@ -1,74 +1,75 @@
-// Lines: where their parts stand.
-ghost use Rattle.std.specs.Prelude.{◌<◌, length};
-ghost use Rattle.aut.specs.Internal.Places.{LineParts, FirstParts};
+// Lines, and their parts.
+ghost use Rattle.std.specs.Prelude.{◌≡◌};
+ghost use Rattle.aut.specs.Scanning.{rest, first_at};
+ghost use Rattle.aut.specs.Internal.Pieces.{rest_of, LineRead, HeadingRead, NumberRead, LabelRead};
 
-use crate::scanning::{after_byte, after_label, after_numeral, after_space};
+use crate::scanning::{after_byte, after_space, label, numeral};
 
-// Where the parts of a line begin and end, and where the next line begins.
-#[derive(Clone, Copy)]
-pub(crate) struct LinePlaces {
-    pub from: usize,
-    pub comma: usize,
-    pub label: usize,
-    pub to: usize,
-    pub close: usize,
-    pub next: usize,
-}
-
-// The line at a place.
-pub(crate) fn line_at(text: &[u8], at: usize) -> LinePlaces
-    requires { at < length text.now }
-    ensures { LineParts text.now at result }
+// A number with the byte that ends it: its digits, and what is left of the text after them.
+fn number_before(text: &[u8], end: u8) -> Option<(&[u8], &[u8])>
+    ensures { NumberRead text.now end result }
 {
-    let from = after_byte(text, at, b'(');
-    let comma = after_numeral(text, from);
-    let label = after_byte(text, after_space(text, after_byte(text, comma, b',')), b'"');
-    let quote = after_label(text, label);
-    let to = after_space(text, after_byte(text, after_byte(text, quote, b'"'), b','));
-    let close = after_numeral(text, to);
-    let next = after_byte(text, after_byte(text, close, b')'), b'\n');
-    LinePlaces {
-        from: from,
-        comma: comma,
-        label: label,
-        to: to,
-        close: close,
-        next: next,
-    }
+    let (digits, left) = numeral(text)?;
+    Some((digits, after_byte(left, end)?))
 }
 
-// Where the numbers of the first line begin, where the last two end, and where the lines after it begin.
-#[derive(Clone, Copy)]
-pub(crate) struct FirstPlaces {
-    pub first: usize,
-    pub transitions: usize,
-    pub comma: usize,
-    pub states: usize,
-    pub close: usize,
-    pub next: usize,
-}
-
-// The first line.
-pub(crate) fn first_line(text: &[u8]) -> FirstPlaces
-    ensures { FirstParts text.now result }
+// A label in its quote marks, with the comma that ends it: its bytes, and what is left of the text after them.
+fn quoted_label(text: &[u8]) -> Option<(&[u8], &[u8])>
+    ensures { LabelRead text.now result }
 {
-    let des = after_byte(
-        text,
-        after_byte(text, after_byte(text, 0, b'd'), b'e'),
-        b's',
-    );
-    let first = after_byte(text, after_space(text, des), b'(');
-    let transitions = after_space(text, after_byte(text, after_numeral(text, first), b','));
-    let comma = after_numeral(text, transitions);
-    let states = after_space(text, after_byte(text, comma, b','));
-    let close = after_numeral(text, states);
-    let next = after_byte(text, after_byte(text, close, b')'), b'\n');
-    FirstPlaces {
-        first: first,
-        transitions: transitions,
-        comma: comma,
-        states: states,
-        close: close,
-        next: next,
-    }
+    let (bytes, left) = label(after_byte(text, b'"')?);
+    Some((bytes, after_byte(after_byte(left, b'"')?, b',')?))
+}
+
+// What stands in a line: the digits of its states, and its label.
+#[derive(Clone, Copy)]
+pub(crate) struct Line<'t> {
+    pub from: &'t [u8],
+    pub label: &'t [u8],
+    pub to: &'t [u8],
+}
+
+// A line, and what is left of the text after it.
+#[tactic(auto, unfolding(crate::specs::Scanning::after_line))]
+pub(crate) fn read_line(text: &[u8]) -> Option<(Line, &[u8])>
+    ensures { LineRead text.now result }
+{
+    let (from, left) = number_before(after_byte(text, b'(')?, b',')?;
+    let (label, left) = quoted_label(after_space(left))?;
+    let (to, left) = number_before(after_space(left), b')')?;
+    Some((Line { from, label, to }, after_byte(left, b'\n')?))
+}
+
+// The digits of the numbers in the first line.
+#[derive(Clone, Copy)]
+pub(crate) struct Heading<'t> {
+    pub first: &'t [u8],
+    pub transitions: &'t [u8],
+    pub states: &'t [u8],
+}
+
+// `des`, a shown space and a parenthesis.
+fn after_des(text: &[u8]) -> Option<&[u8]>
+    ensures { rest_of result ≡ first_at (rest text.now) }
+{
+    let left = after_byte(after_byte(after_byte(text, b'd')?, b'e')?, b's')?;
+    after_byte(after_space(left), b'(')
+}
+
+// The first line, and what is left of the text after it.
+#[tactic(auto, unfolding(crate::specs::Scanning::after_first_line))]
+pub(crate) fn read_heading(text: &[u8]) -> Option<(Heading, &[u8])>
+    ensures { HeadingRead text.now result }
+{
+    let (first, left) = number_before(after_des(text)?, b',')?;
+    let (transitions, left) = number_before(after_space(left), b',')?;
+    let (states, left) = number_before(after_space(left), b')')?;
+    Some((
+        Heading {
+            first,
+            transitions,
+            states,
+        },
+        after_byte(left, b'\n')?,
+    ))
 }

@@ -1,95 +1,56 @@
-// Reading from the front: each function takes a piece at a place and gives the place after it, or the one past the end of the text where the piece is
-// not there. From there nothing can be read any more, so a line is read by one call after another and only its last place is tested.
-ghost use Rattle.std.specs.Prelude.{◌≡◌, ◌+◌, ◌<◌, ◌≤◌, length, drop};
+// Reading from the front: each function takes a piece and gives what is left of the text after it, or `None` where the piece is not there.
+ghost use Rattle.std.specs.Prelude.{◌≡◌};
+ghost use Rattle.std.specs.List.{prefix_len};
 ghost use Rattle.text.specs.Numerals.{is_digit};
-ghost use Rattle.aut.specs.Scanning.{drop_while, after_byte, after_space, after_numeral, after_label};
-ghost use Rattle.aut.specs.Internal.Places.{rest_at, Onward};
+ghost use Rattle.aut.specs.Texts.{is_label_byte};
+ghost use Rattle.aut.specs.Scanning.{rest, take_while, drop_while, after_byte, after_space};
+ghost use Rattle.aut.specs.Internal.Pieces.{rest_of, NumeralRead};
 
 // The byte b.
-pub(crate) fn after_byte(text: &[u8], at: usize, b: u8) -> usize
-    requires { at ≤ length text.now + 1 }
-    ensures result_value { rest_at text.now result ≡ after_byte b (rest_at text.now at) }
-    ensures onward { Onward text.now at result }
-    ensures lower_bound { at ≤ length text.now → at < result }
+pub(crate) fn after_byte(text: &[u8], b: u8) -> Option<&[u8]>
+    ensures { rest_of result ≡ after_byte b (rest text.now) }
 {
-    if at < text.len() {
-        if text[at] == b {
-            return at + 1;
-        }
-        return text.len() + 1;
-    }
-    text.len() + 1
+    text.strip_prefix(&[b])
 }
 
 // A space, or nothing.
-pub(crate) fn after_space(text: &[u8], at: usize) -> usize
-    requires { at ≤ length text.now + 1 }
-    ensures result_value { rest_at text.now result ≡ after_space (rest_at text.now at) }
-    ensures onward { Onward text.now at result }
+pub(crate) fn after_space(text: &[u8]) -> &[u8]
+    ensures { rest result.now ≡ after_space (rest text.now) }
 {
-    if at < text.len() {
-        if text[at] == b' ' {
-            return at + 1;
-        }
-    }
-    at
+    text.strip_prefix(b" ").unwrap_or(text)
 }
 
-// The digits from a place on.
-fn after_digits(text: &[u8], at: usize) -> usize
-    requires { at ≤ length text.now }
-    ensures text_value { drop result text.now ≡ drop_while is_digit (drop at text.now) }
-    ensures lower_bound { (at ≤ result) × (result ≤ length text.now) }
+// How many digits stand at the front.
+fn digit_count(text: &[u8]) -> usize
+    ensures { result ≡ prefix_len is_digit text.now }
 {
-    let mut i = at;
-    while i < text.len() {
-        if text[i] < b'0' {
-            return i;
-        }
-        if b'9' < text[i] {
-            return i;
-        }
-        i += 1;
-    }
-    i
+    text.iter().take_while(|b| b.is_ascii_digit()).count()
 }
 
-// A number.
-pub(crate) fn after_numeral(text: &[u8], at: usize) -> usize
-    requires { at ≤ length text.now + 1 }
-    ensures result_value { rest_at text.now result ≡ after_numeral (rest_at text.now at) }
-    ensures onward { Onward text.now at result }
+// A number: its digits, and what is left.
+pub(crate) fn numeral(text: &[u8]) -> Option<(&[u8], &[u8])>
+    ensures { NumeralRead text.now result }
 {
-    if at < text.len() {
-        if text[at] == b'0' {
-            return at + 1;
-        }
-        if text[at] < b'0' {
-            return text.len() + 1;
-        }
-        if b'9' < text[at] {
-            return text.len() + 1;
-        }
-        return after_digits(text, at + 1);
+    match text {
+        [b'0', ..] => Some(text.split_at(1)),
+        [b'1'..=b'9', ..] => Some(text.split_at(digit_count(text))),
+        _ => None,
     }
-    text.len() + 1
 }
 
-// The bytes of a label.
-pub(crate) fn after_label(text: &[u8], at: usize) -> usize
-    requires { at ≤ length text.now + 1 }
-    ensures result_value { rest_at text.now result ≡ after_label (rest_at text.now at) }
-    ensures onward { Onward text.now at result }
+// How many bytes of a label stand at the front.
+fn label_length(text: &[u8]) -> usize
+    ensures { result ≡ prefix_len is_label_byte text.now }
 {
-    let mut i = at;
-    while i < text.len() {
-        if text[i] == b'"' {
-            return i;
-        }
-        if text[i] == b'\n' {
-            return i;
-        }
-        i += 1;
-    }
-    i
+    text.iter()
+        .take_while(|&&b| b != b'"' && b != b'\n')
+        .count()
+}
+
+// A label, and what is left.
+pub(crate) fn label(text: &[u8]) -> (&[u8], &[u8])
+    ensures label { result.0.now ≡ take_while is_label_byte text.now }
+    ensures left { result.1.now ≡ drop_while is_label_byte text.now }
+{
+    text.split_at(label_length(text))
 }

@@ -11,7 +11,7 @@ use crate::inserting::insert;
 use crate::placing::{fits, place_of};
 use crate::tagging::tag;
 use crate::{Proposal, Proposed};
-use graph::INDEX_SIZE;
+use graph::Index;
 use graph::searching::explore;
 use sheet::reader::{check, plan_body};
 use sheet::{Refusal, State, Transition};
@@ -21,7 +21,7 @@ fn is_free(plan: &[u8]) -> bool
     requires { WellFormedPlan plan.now }
     ensures { result ≡ loop_free plan.now 0 }
 {
-    let mut index = [0u32; INDEX_SIZE];
+    let mut index = Index::new();
     explore(plan, &mut index, State(0))
 }
 

@@ -2,8 +2,7 @@ pub mod Firsts
 pub mod Marks
 pub mod Marking
 pub mod Reached
-pub mod Links
-pub mod Chains
 pub mod FewStates
 pub mod LayerLists
+pub mod Layer
 pub mod OrderSteps

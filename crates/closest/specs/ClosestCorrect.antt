@@ -22,8 +22,7 @@ use Rattle.judge.specs.Auditing.{Audited}
 use Rattle.judge.specs.Clearing.{Cleared}
 use Rattle.judge.specs.Querying.{Queried}
 use Rattle.closest.specs.Steps.{Steps, Earlier}
-use Rattle.closest.specs.Finding.{states_in_order, ClosestReport, reported_closest, refused_report, Finds}
-use Rattle.closest.specs.declared.Closest.{Closest}
+use Rattle.closest.specs.Finding.{ClosestAnswer, states_in_order, ClosestReport, reported_closest, refused_report, Finds}
 
 -- a "reachable state": state 0, or one that a way leads to from state 0
 abbrev pub ReachableState : List ℕ → ℕ → Type 0
@@ -105,30 +104,30 @@ pub record SearchesCorrect : Type 0 where
   -- "Refusals go as for a query of state 0": number and place are those of such a query (QueryNumbers of specs/CallNumbers.antt of the
   -- judge says which); a plan has a state 0, so the number is never 11
   pub numbers :
-      (s t : List ℕ) (r : Closest) (u : List ℕ) → Finds s t r u → (a : Queried) (w : List ℕ) → Queries s 0 t a w
+      (s t : List ℕ) (r : ClosestAnswer) (u : List ℕ) → Finds s t r u → (a : Queried) (w : List ℕ) → Queries s 0 t a w
       → ((reported_closest r).number ≡ (reported_query a).number) × ((reported_closest r).place ≡ (reported_query a).place)
   -- document 01: "They apply in rising order": 1 to 10
   pub in_order :
-      (s t : List ℕ) (r : Closest) (u : List ℕ) → Finds s t r u → GivenInOrder s (reported_closest r).number (reported_closest r).place
-  pub never_eleven : (s t : List ℕ) (r : Closest) (u : List ℕ) → Finds s t r u → (reported_closest r).number ≢ 11
+      (s t : List ℕ) (r : ClosestAnswer) (u : List ℕ) → Finds s t r u → GivenInOrder s (reported_closest r).number (reported_closest r).place
+  pub never_eleven : (s t : List ℕ) (r : ClosestAnswer) (u : List ℕ) → Finds s t r u → (reported_closest r).number ≢ 11
   -- document 01: "A refused call gives .. any further result number 0 .., and changes no buffer."
   pub refused :
-      (s t : List ℕ) (r : Closest) (u : List ℕ) → Finds s t r u → (reported_closest r).number ≢ 0
+      (s t : List ℕ) (r : ClosestAnswer) (u : List ℕ) → Finds s t r u → (reported_closest r).number ≢ 0
       → (reported_closest r ≡ refused_report (reported_closest r).number (reported_closest r).place) × (u ≡ t)
   pub accepted :
-      (s t : List ℕ) (r : Closest) (u : List ℕ) → Finds s t r u → (reported_closest r).number ≡ 0
+      (s t : List ℕ) (r : ClosestAnswer) (u : List ℕ) → Finds s t r u → (reported_closest r).number ≡ 0
       → ClosestCorrect s t (reported_closest r) u
   pub as_queries :
-      (s t : List ℕ) (r : Closest) (u : List ℕ) → Finds s t r u → (reported_closest r).number ≡ 0 → AsQueries s t (reported_closest r) u
+      (s t : List ℕ) (r : ClosestAnswer) (u : List ℕ) → Finds s t r u → (reported_closest r).number ≡ 0 → AsQueries s t (reported_closest r) u
   -- on a table just cleared, or that a list of queries left since: calls of `clear`, which gave number 0, and of `query`
   pub on_lists :
-      (s lent : List ℕ) (c : Cleared) (cleared states : List ℕ) (answers : List QueryReport) (t : List ℕ) (r : Closest) (u : List ℕ)
+      (s lent : List ℕ) (c : Cleared) (cleared states : List ℕ) (answers : List QueryReport) (t : List ℕ) (r : ClosestAnswer) (u : List ℕ)
       → Clears s lent c cleared → (reported_clear c).number ≡ 0 → Calls s cleared states answers t → Finds s t r u
       → ByTable1 s (reported_closest r)
   -- on a table from elsewhere to which the audit says yes; and it says yes to the table left
   pub on_audited :
-      (s t : List ℕ) (a : Audited) (r : Closest) (u : List ℕ) → Audits s t a → (reported_audit a).answer ≡ true → Finds s t r u
+      (s t : List ℕ) (a : Audited) (r : ClosestAnswer) (u : List ℕ) → Audits s t a → (reported_audit a).answer ≡ true → Finds s t r u
       → ByTable1 s (reported_closest r)
   pub audited_again :
-      (s t : List ℕ) (a : Audited) (r : Closest) (u : List ℕ) (b : Audited) → Audits s t a → (reported_audit a).answer ≡ true
+      (s t : List ℕ) (a : Audited) (r : ClosestAnswer) (u : List ℕ) (b : Audited) → Audits s t a → (reported_audit a).answer ≡ true
       → Finds s t r u → Audits s u b → (reported_audit b).answer ≡ true

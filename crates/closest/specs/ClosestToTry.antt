@@ -3,8 +3,7 @@ use Rattle.std.specs.Prelude.{ℕ, ◌≡◌, true, false, List, [], ◌∷◌, 
 use Rattle.calculus.specs.KeySheet.{K}
 use Rattle.judge.specs.Cells.{table_bytes}
 use Rattle.judge.specs.SheetsToTry.{with_true, every_false, some_true, greatest_self, least_loop}
-use Rattle.closest.specs.Finding.{ClosestReport, reported_closest, refused_report, Finds}
-use Rattle.closest.specs.declared.Closest.{Closest}
+use Rattle.closest.specs.Finding.{ClosestAnswer, ClosestReport, reported_closest, refused_report, Finds}
 
 -- "some" with true over T, which fails at the end states, on a plan of 4 states: 0 leads to 2 and 3, and 2 to 1
 abbrev pub nearer_end : List ℕ
@@ -22,7 +21,7 @@ two_ends = with_true (3 ∷ 1 ∷ 2 ∷ 0 ∷ 0 ∷ 0 ∷ 1 ∷ 0 ∷ 0 ∷ 2 �
 
 -- every call on the table of the sheet, just cleared, with no byte after it, reports this
 abbrev pub Reports : List ℕ → ClosestReport → Type 0
-Reports s q = (r : Closest) (u : List ℕ) → Finds s (replicate (table_bytes s) 0) r u → reported_closest r ≡ q
+Reports s q = (r : ClosestAnswer) (u : List ℕ) → Finds s (replicate (table_bytes s) 0) r u → reported_closest r ≡ q
 
 -- a state that breaks the rule, its steps and the visits
 abbrev pub failing : ℕ → ℕ → ℕ → ClosestReport

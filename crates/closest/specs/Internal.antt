@@ -1,5 +1,4 @@
 pub mod Distances
-pub mod Layers
 pub mod Ordering
 pub mod Answering
 pub mod Tracing

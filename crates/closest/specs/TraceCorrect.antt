@@ -10,8 +10,7 @@ use Rattle.sheet.specs.WellFormed.{WellFormedSheet}
 use Rattle.graph.specs.Loops.{Reachable}
 use Rattle.graph.specs.Successors.{successors}
 use Rattle.closest.specs.Steps.{Steps}
-use Rattle.closest.specs.Tracing.{way_bytes, reported_trace, Traces}
-use Rattle.closest.specs.declared.Traced.{Traced}
+use Rattle.closest.specs.Tracing.{Traced, way_bytes, reported_trace, Traces}
 
 -- transitions of the plan p, one after another, lead from a state to another: the first leaves it, each next leaves where the one before
 -- led, and the last leads to the other

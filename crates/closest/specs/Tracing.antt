@@ -1,17 +1,15 @@
 -- Document 02 (m): one shortest way from state 0 to a state, such as the "closest state that breaks the rule". What the call answers and
 -- what it leaves in the output buffer, for every list of bytes as sheet and as buffer and for every state.
-use Rattle.std.specs.Prelude.{ℕ, zero, suc, ◌*◌, ◌≡◌, Bool, true, false, ◌&&◌, List, [], ◌∷◌, ◌++◌, length, drop, eqb, ltb, leb, Err, Ok}
+use Rattle.std.specs.Prelude.{ℕ, zero, suc, ◌*◌, ◌≡◌, Bool, true, false, ◌&&◌, List, [], ◌∷◌, ◌++◌, length, drop, eqb, ltb, leb, Option, None, Some, Result, Ok, Err}
 use Rattle.sheet.specs.Bytes.{pick, lowest}
 use Rattle.sheet.specs.Contents.{plan_body}
 use Rattle.sheet.specs.Plan.{state_count, transition_count, origin, target}
 use Rattle.sheet.specs.Reading.{sheet_check}
-use Rattle.sheet.specs.Refusals.{number_of, place_of, require, and_then}
+use Rattle.sheet.specs.Refusals.{Check, number_of, place_of, require, and_then}
 use Rattle.sheet.specs.TransitionSystem.{LabelledTransition, transition_of}
-use Rattle.sheet.specs.Refusals.{Check}
+use Rattle.sheet.specs.declared.Refusal.{Refusal}
 use Rattle.sheet.specs.declared.Refusal.TheVariants.{NoSuchState, OutputShort}
 use Rattle.closest.specs.Steps.{at_steps}
-use Rattle.closest.specs.declared.Traced.{Traced}
-use Rattle.closest.specs.declared.Traced.TheVariants.{Way, Unreachable, Refused}
 
 -- ---- the way; p is the body of a plan
 
@@ -47,14 +45,18 @@ way_bytes (x ∷ l) = x.origin ∷ x.action ∷ x.target ∷ way_bytes l
 unfoldable pub trace_check : List ℕ → ℕ → Check
 trace_check s state = and_then (sheet_check s) (require (ltb state (state_count (plan_body s))) NoSuchState)
 
+-- what the call answers: the steps of the way, None where none leads there
+abbrev pub Traced : Type 0
+Traced = Result (Option ℕ) Refusal
+
 -- of a state of n steps: "22: output buffer too short", for three bytes a step, else the way
 abbrev pub answer_steps : ℕ → ℕ → Traced
-answer_steps n room = pick (leb (3 * n) room) (Way n) (Refused OutputShort)
+answer_steps n room = pick (leb (3 * n) room) (Ok (Some n)) (Err OutputShort)
 
 -- "They apply in rising order"; of a state that can't be reached there is nothing to write
 abbrev pub answer_traced : Bool → ℕ → ℕ → Check → Traced
-answer_traced reached n room (Ok tt) = pick reached (answer_steps n room) Unreachable
-answer_traced reached n room (Err x) = Refused x
+answer_traced reached n room (Ok tt) = pick reached (answer_steps n room) (Ok None)
+answer_traced reached n room (Err x) = Err x
 
 -- the answer for every sheet and state and an output of so many bytes
 unfoldable pub traced_of : List ℕ → ℕ → ℕ → Traced
@@ -63,9 +65,9 @@ traced_of s state room = answer_traced (is_reached (plan_body s) state) (step_co
 -- the way at the start of the output; document 02 (c), "Here and in later requests": "output bytes past what is written stay unchanged";
 -- document 01: a refused call "changes no buffer"
 abbrev pub leaves : List ℕ → List ℕ → Traced → List ℕ
-leaves way out (Way n) = way ++ drop (3 * n) out
-leaves way out Unreachable = out
-leaves way out (Refused x) = out
+leaves way out (Ok (Some n)) = way ++ drop (3 * n) out
+leaves way out (Ok None) = out
+leaves way out (Err x) = out
 
 -- the output that the call leaves, for every sheet, state and output
 unfoldable pub output_traced : List ℕ → ℕ → List ℕ → List ℕ
@@ -82,9 +84,9 @@ pub record TraceReport : Type 0 where
 
 -- the parts of each answer
 abbrev pub reported_trace : Traced → TraceReport
-reported_trace (Way n) = record { number = 0; place = 0; reached = true; steps = n }
-reported_trace Unreachable = record { number = 0; place = 0; reached = false; steps = 0 }
-reported_trace (Refused r) = record { number = number_of r; place = place_of r; reached = false; steps = 0 }
+reported_trace (Ok (Some n)) = record { number = 0; place = 0; reached = true; steps = n }
+reported_trace (Ok None) = record { number = 0; place = 0; reached = false; steps = 0 }
+reported_trace (Err r) = record { number = number_of r; place = place_of r; reached = false; steps = 0 }
 
 -- what is reported for every sheet and state and an output of so many bytes
 abbrev pub trace_report_of : List ℕ → ℕ → ℕ → TraceReport

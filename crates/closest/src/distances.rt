@@ -1,112 +1,90 @@
 // How many steps each state is from state 0: a breadth-first search over the transitions, which stand in the order of their origins.
-ghost use Rattle.std.specs.Prelude.{◌≡◌, ◌&&◌, ◌+◌, ◌*◌, ◌<◌, length, replicate, ltb};
-ghost use Rattle.sheet.specs.Plan.{origin, target};
+ghost use Rattle.std.specs.Prelude.{◌≡◌, ◌+◌, [], ◌∷◌};
 ghost use Rattle.sheet.specs.WellFormed.{WellFormedPlan};
-ghost use Rattle.graph.specs.Search.{most_states};
-ghost use Rattle.closest.specs.Internal.Distances.{FirstsRight, Queued, MarkRequires, StepsMarked};
+ghost use Rattle.closest.specs.Internal.Distances.{marks_of, start_distances, FirstsRight, Queued, ReachRequires, StepsFound};
 
+use crate::states::States;
 use graph::MOST_STATES;
-use sheet::plan::{state_count, transition_count};
+use sheet::plan::{transition, transition_count};
 
-// Of each state 0 where it is not reached, else one more than its steps.
-pub(crate) type Marks = [u8; MOST_STATES];
-
-// The states reached so far, in the order in which they were.
-type Queue = [u8; MOST_STATES];
+// Of each state its steps; None where no way leads there.
+pub(crate) type Distances = [Option<u8>; MOST_STATES];
 
 // Where the transitions of each state begin; those of a state end where those of the next begin.
-type Firsts = [usize; FIRSTS];
+type Firsts = [u16; FIRSTS];
 
 const FIRSTS: usize = MOST_STATES + 1;
 
-pub(crate) fn wide(x: u8) -> usize
-    ensures { (result ≡ x) × (result < 256) }
-{
-    x as usize
+// A search under way: the steps of the states reached so far, and these states in the order in which they were reached. Of the first `done` of them the
+// successors are reached too.
+#[derive(Drop)]
+struct Search {
+    distances: Distances,
+    queue: States,
+    done: usize,
 }
 
-fn target_at(plan: &[u8], i: usize) -> usize
-    requires { 6 + 3 * i < length plan.now }
-    ensures { (result ≡ target plan.now i) × (result < 256) }
-{
-    wide(plan[6 + 3 * i])
-}
-
-// Whether transition i is there and leaves a state before s.
-fn leaves_before(plan: &[u8], count: usize, i: usize, s: usize) -> bool
-    requires { (length plan.now ≡ 4 + 3 * count) × (count < 65536) }
-    ensures { result ≡ (ltb i count && ltb (origin plan.now i) s) }
-{
-    if i < count {
-        let from = wide(plan[4 + 3 * i]);
-        return from < s;
+impl Search {
+    // State 0 is reached.
+    fn start() -> Self
+        ensures { (result.done ≡ 0) × ((result.distances ≡ start_distances) × (result.queue ≡ 0 ∷ [])) }
+    {
+        let mut distances = [None; MOST_STATES];
+        distances[0] = Some(0);
+        let mut queue = States::new();
+        queue.push(0);
+        Search {
+            distances,
+            queue,
+            done: 0,
+        }
     }
-    false
+
+    // The successors of a state, the next in the queue, that are not reached yet are reached from it.
+    fn reach_successors(&mut self, plan: &[u8], firsts: &Firsts, state: u8)
+        requires { ReachRequires plan.now firsts.now (marks_of self.old.distances) self.old.queue self.old.done state }
+        ensures done { self.new.done ≡ self.old.done }
+        ensures reached { Queued plan.now (marks_of self.new.distances) self.new.queue (self.new.done + 1) }
+    {
+        let at = usize::from(state);
+        let steps = self.distances[at].unwrap() + 1;
+        for i in firsts[at]..firsts[at + 1] {
+            let to = transition(plan, i).to.0;
+            if self.distances[usize::from(to)].is_none() {
+                self.distances[usize::from(to)] = Some(steps);
+                self.queue.push(to);
+            }
+        }
+    }
 }
 
 // One pass over states and transitions together.
-fn put_firsts(plan: &[u8], firsts: &mut Firsts)
-    requires { WellFormedPlan plan.now × (length firsts.old ≡ most_states + 1) }
-    ensures { FirstsRight plan.now firsts.new }
+fn find_firsts(plan: &[u8]) -> Firsts
+    requires { WellFormedPlan plan.now }
+    ensures { FirstsRight plan.now result }
 {
-    let states = wide(state_count(plan));
-    let count = transition_count(plan) as usize;
-    let mut i: usize = 0;
-    let mut s: usize = 0;
-    while s <= states {
-        if leaves_before(plan, count, i, s) {
+    let count = transition_count(plan);
+    let mut firsts = [0; FIRSTS];
+    let mut i = 0;
+    for s in 0..FIRSTS {
+        while i < count && usize::from(transition(plan, i).from.0) < s {
             i += 1;
-            continue;
         }
         firsts[s] = i;
-        s += 1;
     }
+    firsts
 }
 
-// The successors of the next state in the queue that are not reached yet are marked and queued. Returns how many states are queued then.
-fn mark_next(
-    plan: &[u8],
-    firsts: &Firsts,
-    marks: &mut Marks,
-    queue: &mut Queue,
-    known: usize,
-    done: usize,
-) -> usize
-    requires { MarkRequires plan.now firsts.now marks.old queue.old known done }
-    ensures { Queued plan.now marks.new queue.new result (done + 1) }
+// The states are reached in the order of their steps, since those that are reached first have their successors reached first.
+pub(crate) fn find_distances(plan: &[u8]) -> Distances
+    requires { WellFormedPlan plan.now }
+    ensures { StepsFound plan.now result }
 {
-    let at = wide(queue[done]);
-    let mark = marks[at] + 1;
-    let end = firsts[at + 1];
-    let mut queued = known;
-    let mut i = firsts[at];
-    while i < end {
-        let t = target_at(plan, i);
-        if marks[t] == 0 {
-            marks[t] = mark;
-            queue[queued] = t as u8;
-            queued += 1;
-            i += 1;
-            continue;
-        }
-        i += 1;
+    let firsts = find_firsts(plan);
+    let mut search = Search::start();
+    while let Some(state) = search.queue.get(search.done) {
+        search.reach_successors(plan, &firsts, state);
+        search.done += 1;
     }
-    queued
-}
-
-// The states are reached in the order of their steps, since those that are reached first have their successors marked first.
-pub(crate) fn mark_steps(plan: &[u8], marks: &mut Marks)
-    requires { WellFormedPlan plan.now × (marks.old ≡ replicate most_states 0) }
-    ensures { StepsMarked plan.now marks.new }
-{
-    let mut firsts = [0usize; FIRSTS];
-    put_firsts(plan, &mut firsts);
-    let mut queue = [0u8; MOST_STATES];
-    marks[0] = 1;
-    let mut known: usize = 1;
-    let mut done: usize = 0;
-    while done < known {
-        known = mark_next(plan, &firsts, marks, &mut queue, known, done);
-        done += 1;
-    }
+    search.distances
 }

@@ -1,94 +1,67 @@
 // The public call: one shortest way from state 0 to a state, put together from its end.
-ghost use Rattle.std.specs.Prelude.{◌≡◌, ◌++◌, ◌*◌, ◌<◌, drop};
-ghost use Rattle.sheet.specs.Contents.{plan_body};
-ghost use Rattle.sheet.specs.Plan.{state_count};
-ghost use Rattle.sheet.specs.Reading.{sheet_check};
-ghost use Rattle.std.specs.Prelude.{Ok};
+ghost use Rattle.std.specs.Prelude.{◌≡◌, ◌++◌, ◌*◌, drop};
+ghost use Rattle.sheet.specs.WellFormed.{WellFormedPlan};
 ghost use Rattle.closest.specs.Tracing.{way_to, way_bytes, Traces};
-ghost use Rattle.closest.specs.Internal.Tracing.{LastsRight, LastsRequire, WayRequires};
+ghost use Rattle.closest.specs.Internal.Distances.{StepsFound};
+ghost use Rattle.closest.specs.Internal.Tracing.{LastsRight, WayRequires};
 
-use crate::Traced;
-use crate::distances::{Marks, mark_steps, wide};
+use crate::distances::{Distances, find_distances};
 use graph::MOST_STATES;
-use sheet::plan::{state_count, transition_count};
+use sheet::plan::{state_count, transition, transition_count};
 use sheet::reader::{check, plan_body};
 use sheet::{Refusal, State};
 
 // Of each state the number of the last transition of the way to it.
-type Lasts = [usize; MOST_STATES];
+type Lasts = [u16; MOST_STATES];
 
 // From the last transition to the first, so that of those that lead to a state from one of a step less the lowest-numbered stays.
-fn put_lasts(plan: &[u8], marks: &Marks, lasts: &mut Lasts)
-    requires { LastsRequire plan.now marks.now lasts.old }
-    ensures { LastsRight plan.now lasts.new }
+fn find_lasts(plan: &[u8], distances: &Distances) -> Lasts
+    requires { WellFormedPlan plan.now × StepsFound plan.now distances.now }
+    ensures { LastsRight plan.now result }
 {
-    let mut i = transition_count(plan) as usize;
-    while 0 < i {
-        i -= 1;
-        let from = wide(plan[4 + 3 * i]);
-        let to = wide(plan[6 + 3 * i]);
-        if marks[to] == marks[from] + 1 {
-            lasts[to] = i;
-            continue;
+    let mut lasts = [0; MOST_STATES];
+    for i in (0..transition_count(plan)).rev() {
+        let last = transition(plan, i);
+        let to = usize::from(last.to.0);
+        if let Some(before) = distances[usize::from(last.from.0)] {
+            if distances[to] == Some(before + 1) {
+                lasts[to] = i;
+            }
         }
     }
+    lasts
 }
 
 // The way to a state of so many steps, at the start of out.
-fn put_way(plan: &[u8], lasts: &Lasts, state: usize, steps: usize, out: &mut [u8])
-    requires { WayRequires plan.now lasts.now state steps out.old }
-    ensures { out.new ≡ way_bytes (way_to plan.now steps state) ++ drop (3 * steps) out.old }
+fn put_way(plan: &[u8], lasts: &Lasts, state: State, steps: u8, out: &mut [u8])
+    requires { WayRequires plan.now lasts.now state.0 steps out.old }
+    ensures { out.new ≡ way_bytes (way_to plan.now steps state.0) ++ drop (3 * steps) out.old }
 {
     let mut at = state;
-    let mut left = steps;
-    while 0 < left {
-        left -= 1;
-        let i = lasts[at];
-        let from = plan[4 + 3 * i];
-        out[3 * left + 2] = plan[6 + 3 * i];
-        out[3 * left + 1] = plan[5 + 3 * i];
-        out[3 * left] = from;
-        at = wide(from);
+    for left in (0..usize::from(steps)).rev() {
+        let last = transition(plan, lasts[usize::from(at.0)]);
+        out[3 * left..3 * left + 3].copy_from_slice(&[last.from.0, last.action.0, last.to.0]);
+        at = last.from;
     }
 }
 
-// The answer for a state of an accepted sheet.
-fn trace_state(sheet: &[u8], state: State, out: &mut [u8]) -> Traced
-    requires { (sheet_check sheet.now ≡ Ok tt) × (state.0 < state_count (plan_body sheet.now)) }
+// One shortest way from state 0 to a state: its steps, None where no way leads there. out then holds, from its start, the way's transitions in order, three
+// bytes each (from, action, to). Where no way leads to the state, and on a refusal, out is unchanged.
+pub fn shortest_way(sheet: &[u8], state: State, out: &mut [u8]) -> Result<Option<u8>, Refusal>
     ensures { Traces sheet.now state.0 out.old result out.new }
 {
+    check(sheet)?;
     let plan = plan_body(sheet);
-    let mut marks = [0u8; MOST_STATES];
-    mark_steps(plan, &mut marks);
-    let at = wide(state.0);
-    let mark = marks[at];
-    if mark == 0 {
-        return Traced::Unreachable;
+    if state_count(plan) <= state.0 {
+        return Err(Refusal::NoSuchState);
     }
-    let steps = mark - 1;
-    let count = wide(steps);
-    if out.len() < 3 * count {
-        return Traced::Refused(Refusal::OutputShort);
+    let distances = find_distances(plan);
+    let Some(steps) = distances[usize::from(state.0)] else {
+        return Ok(None);
+    };
+    if out.len() < 3 * usize::from(steps) {
+        return Err(Refusal::OutputShort);
     }
-    let mut lasts = [0usize; MOST_STATES];
-    put_lasts(plan, &marks, &mut lasts);
-    put_way(plan, &lasts, at, count, out);
-    Traced::Way { steps }
-}
-
-// One shortest way from state 0 to a state: out holds, from its start, its transitions in order, three bytes each (from, action, to). Where no way leads
-// to the state, and on a refusal, out is unchanged.
-pub fn shortest_way(sheet: &[u8], state: State, out: &mut [u8]) -> Traced
-    ensures { Traces sheet.now state.0 out.old result out.new }
-{
-    let checked = check(sheet);
-    match checked {
-        Err(x) => Traced::Refused(x),
-        Ok(()) => {
-            if state_count(plan_body(sheet)) <= state.0 {
-                return Traced::Refused(Refusal::NoSuchState);
-            }
-            trace_state(sheet, state, out)
-        }
-    }
+    put_way(plan, &find_lasts(plan, &distances), state, steps, out);
+    Ok(Some(steps))
 }

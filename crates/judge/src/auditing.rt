@@ -7,12 +7,12 @@ ghost use Rattle.judge.specs.Internal.Auditing.{AuditRequires, LongTableRequires
 
 use crate::Scanned;
 use crate::consistency::table_passes;
-use crate::index::{MARKS_AT, NODES_AT, number};
+use crate::index::Index;
 use crate::preparing::{prepare_rule, prepare_states};
 use crate::scanning::scan_states;
 use crate::table::{cell_bytes_prepared, number_at, table_bytes_for};
 use crate::widen::wide_u32;
-use graph::{INDEX_SIZE, Index, MOST_STATES, Starts};
+use graph::{MOST_STATES, Starts};
 use sheet::Refusal;
 use sheet::plan::state_count;
 use sheet::reader::{check, plan_body};
@@ -47,7 +47,7 @@ fn audit_states(
     ensures { Audits sheet.now table.now result }
 {
     let states = state_count(plan_body(sheet));
-    let width = number(index, NODES_AT) * number(index, MARKS_AT);
+    let width = index.nodes as usize * index.marks as usize;
     let mut starts = [0u8; MOST_STATES];
     let scanned = scan_states(&table[..cells], states, width, &mut starts);
     match scanned {
@@ -66,8 +66,7 @@ fn audit_accepted(sheet: &[u8], table: &[u8]) -> Result<bool, Refusal>
     requires { sheet_check sheet.now ≡ Ok tt }
     ensures { Audits sheet.now table.now result }
 {
-    let mut index = [0; INDEX_SIZE];
-    prepare_rule(sheet, &mut index);
+    let mut index = prepare_rule(sheet);
     let cells = cell_bytes_prepared(sheet, &index);
     if table.len() < table_bytes_for(cells) {
         return Err(Refusal::TableShort);

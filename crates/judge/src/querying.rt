@@ -7,13 +7,13 @@ ghost use Rattle.judge.specs.Querying.{Queries};
 ghost use Rattle.judge.specs.Internal.Judging.{TableRequires};
 
 use crate::deciding::decide;
+use crate::index::Index;
 use crate::packed::{is_true, visits_of};
-use crate::preparing::prepare;
+use crate::preparing::{index_of, prepare};
 use crate::scanning::scan;
 use crate::table::{cell_bytes_prepared, number_at, put_number, table_bytes_for};
 use crate::widen::wide_u32;
 use crate::{Judged, QueryError, Scanned};
-use graph::{INDEX_SIZE, Index};
 use sheet::plan::state_count;
 use sheet::reader::{check, plan_body};
 use sheet::{Node, Refusal, State};
@@ -76,7 +76,7 @@ fn judge_accepted(sheet: &[u8], state: State, table: &mut [u8]) -> Result<Judged
     if state_count(plan_body(sheet)) <= state.0 {
         return Err(QueryError::Refused(Refusal::NoSuchState));
     }
-    let mut index = [0; INDEX_SIZE];
+    let mut index = index_of(sheet);
     if !prepare(sheet, &mut index, state) {
         return Err(QueryError::Refused(Refusal::Loop));
     }

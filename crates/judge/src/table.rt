@@ -3,15 +3,14 @@ ghost use Rattle.std.specs.Prelude.{◌≡◌, ◌+◌, ◌*◌, ◌<◌, ◌≤
 ghost use Rattle.rows.specs.Tables.{byte_of};
 ghost use Rattle.judge.specs.Cells.{cell_bytes, count_bytes, table_bytes_for, table_bytes};
 ghost use Rattle.judge.specs.StoredCount.{number_at, in_four_bytes};
-ghost use Rattle.judge.specs.Internal.Index.{nodes_at, marks_at, HeadRight};
+ghost use Rattle.judge.specs.Internal.Index.{HeadRight};
 ghost use Rattle.judge.specs.Internal.Judging.{product_bound};
 ghost use Rattle.judge.specs.Internal.Packed.{Known, OneVisitMore, verdict_in, packed_limit};
 
 use crate::COUNT_BYTES;
-use crate::index::{MARKS_AT, NODES_AT, number};
+use crate::index::Index;
 use crate::packed::is_true;
 use crate::widen::{byte_as_u32, wide};
-use graph::Index;
 use sheet::plan::state_count;
 use sheet::reader::{plan_body, rule_body};
 use sheet::rule::{binder_count, node_count};
@@ -41,7 +40,7 @@ pub(crate) fn cell_bytes_prepared(sheet: &[u8], index: &Index) -> usize
     ensures { (result ≡ cell_bytes sheet.now) × (result ≤ product_bound) }
 {
     let states = wide(state_count(plan_body(sheet)));
-    product(states, number(index, NODES_AT), number(index, MARKS_AT))
+    product(states, wide(index.nodes), wide(index.marks))
 }
 
 // The bytes of a table that has so many bytes of cells: the cells, and the count after them.
@@ -98,10 +97,10 @@ pub(crate) fn put_number(table: &mut [u8], at: usize, n: u32)
 
 // The byte of the table that holds a cell.
 pub(crate) fn cell_position(index: &Index, mark: u8, node: Node, state: State) -> usize
-    requires { (slice_index index.now nodes_at < 256) × (slice_index index.now marks_at < 256) }
-    ensures { result ≡ (state.0 * slice_index index.now nodes_at + node.0) * slice_index index.now marks_at + mark }
+    ensures { result ≡ (state.0 * index.now.nodes + node.0) * index.now.marks + mark }
 {
-    (wide(state.0) * number(index, NODES_AT) + wide(node.0)) * number(index, MARKS_AT) + wide(mark)
+    (state.0 as usize * index.nodes as usize + node.0 as usize) * index.marks as usize
+        + mark as usize
 }
 
 // What a filled byte says, with no visit.

@@ -6,13 +6,14 @@ ghost use Rattle.judge.specs.InTurn.{QueriesInTurn};
 ghost use Rattle.judge.specs.Internal.Turns.{MarkRequires, StatesMarked, EachPrepared, WalkRequires, WalkedInTurn, TurnsRequires};
 
 use crate::deciding::decide;
+use crate::index::Index;
 use crate::packed::{is_true, visits_of};
 use crate::preparing::{prepare_rule, prepare_states};
 use crate::scanning::scan;
 use crate::table::{cell_bytes_prepared, number_at, put_number, table_bytes_for};
 use crate::widen::{wide, wide_u32};
 use crate::{JudgedInTurn, QueryError, Scanned, Walked};
-use graph::{INDEX_SIZE, Index, MOST_STATES, Starts};
+use graph::{MOST_STATES, Starts};
 use sheet::plan::state_count;
 use sheet::reader::{check, plan_body};
 use sheet::{Node, Refusal, State};
@@ -111,8 +112,7 @@ fn walk_accepted(sheet: &[u8], states: &[u8], table: &mut [u8]) -> Result<Judged
     if !mark_states(states, state_count(plan_body(sheet)), &mut starts) {
         return Err(QueryError::Refused(Refusal::NoSuchState));
     }
-    let mut index = [0; INDEX_SIZE];
-    prepare_rule(sheet, &mut index);
+    let mut index = prepare_rule(sheet);
     if !prepare_states(sheet, &mut index, &starts) {
         return Err(QueryError::Refused(Refusal::Loop));
     }

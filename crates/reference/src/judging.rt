@@ -1,8 +1,8 @@
 // The public call: refusals 1 to 10, then 13, else the word of the rule's meaning.
 ghost use Rattle.reference.specs.Reference.{References};
 
-use crate::sets::{all, restart};
-use crate::table1::{evaluate, meetings};
+use crate::sets::{Context, States};
+use crate::table1::{Judge, meetings};
 use sheet::plan::{action_count, state_count};
 use sheet::reader::{actions_body, check, plan_body, rule_body};
 use sheet::{Node, Refusal};
@@ -17,8 +17,12 @@ pub fn reference(sheet: &[u8]) -> Result<u64, Refusal>
     if 64 < states {
         return Err(Refusal::TooManyStates);
     }
-    let masks = meetings(actions_body(sheet), action_count(plan));
-    let mut context: [u64; 6] = [0; 6];
-    restart(rule_body(sheet), &mut context, Node(0), 8, all(states));
-    Ok(evaluate(sheet, &masks, Node(0), &mut context))
+    let judge = Judge {
+        sheet,
+        masks: meetings(actions_body(sheet), action_count(plan)),
+        full: States::all(states),
+    };
+    let mut context = Context::new();
+    context.restart(rule_body(sheet), Node(0), 8, judge.full);
+    Ok(judge.evaluate(Node(0), &mut context).word())
 }

@@ -13,7 +13,7 @@ use Rattle.judge.specs.Clearing.{Cleared}
 use Rattle.judge.specs.Counting.{Counted}
 use Rattle.report.specs.Text.{tally_of, text_of}
 use Rattle.report.specs.Reporting.{most_queries, least_output, report_text, reported_text, WritesReport}
-use Rattle.report.specs.declared.Report.{Report}
+use Rattle.report.specs.Reporting.{Report}
 
 -- "room enough for the longest text": no text is longer, whatever the sheet, where clearing gives number 0
 abbrev pub RoomForEveryReport : Type 0

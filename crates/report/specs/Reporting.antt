@@ -1,6 +1,6 @@
 -- Document 02 (g): a report, what it answers and what it leaves in both buffers, for every list of bytes as sheet, states, table and
 -- output. It says all of it by the judge's definitions of clearing and query.
-use Rattle.std.specs.Prelude.{ℕ, ◌≡◌, Bool, true, false, List, length, leb, Err, Ok}
+use Rattle.std.specs.Prelude.{ℕ, ◌≡◌, Bool, true, false, List, length, leb, Result, Err, Ok}
 use Rattle.text.specs.Placing.{starting_with}
 use Rattle.sheet.specs.Refusals.{number_of, place_of, require, and_then}
 use Rattle.sheet.specs.RunningCalls.{AllBytes}
@@ -10,8 +10,8 @@ use Rattle.judge.specs.Clearing.{clear_check, table_cleared}
 use Rattle.judge.specs.Querying.{QueryReport}
 use Rattle.judge.specs.Lists.{reports, table_after}
 use Rattle.report.specs.Text.{text_of}
-use Rattle.report.specs.declared.Report.{Report}
-use Rattle.report.specs.declared.Report.TheVariants.{Wrote, TooManyQueries, Refused}
+use Rattle.report.specs.declared.ReportError.{ReportError}
+use Rattle.report.specs.declared.ReportError.TheVariants.{TooManyQueries, Refused}
 
 -- "a list of up to 64 queries"
 abbrev pub most_queries : ℕ
@@ -41,11 +41,15 @@ table_after_queries s states t = table_after s (table_cleared s t) states
 abbrev pub report_text : List ℕ → List ℕ → List ℕ → List ℕ
 report_text s states t = text_of states (answers_of s states t)
 
+-- what a report answers: the length of its text, or why it was turned down
+abbrev pub Report : Type 0
+Report = Result ℕ ReportError
+
 -- the length of the text, or the refusal
 abbrev pub answer_report : ℕ → Bool → Check → Report
-answer_report n true (Ok tt) = Wrote n
-answer_report n true (Err x) = Refused x
-answer_report n false check = TooManyQueries
+answer_report n true (Ok tt) = Ok n
+answer_report n true (Err x) = Err (Refused x)
+answer_report n false check = Err TooManyQueries
 
 -- the answer for every sheet, list of states, table and output
 unfoldable pub report_of : List ℕ → List ℕ → List ℕ → List ℕ → Report
@@ -54,9 +58,9 @@ report_of s states t out = answer_report (length (report_text s states t)) (few_
 -- "A refused call .. changes no buffer.": what a buffer holds after each answer, by what it would hold after the text was written and what
 -- it held before
 abbrev pub leaves : List ℕ → List ℕ → Report → List ℕ
-leaves after before (Wrote n) = after
-leaves after before TooManyQueries = before
-leaves after before (Refused x) = before
+leaves after before (Ok n) = after
+leaves after before (Err TooManyQueries) = before
+leaves after before (Err (Refused x)) = before
 
 -- the table that a report leaves
 unfoldable pub table_reported : List ℕ → List ℕ → List ℕ → List ℕ → List ℕ
@@ -75,9 +79,9 @@ pub record TextReport : Type 0 where
 
 -- number, place and length of each answer
 abbrev pub reported_text : Report → TextReport
-reported_text (Wrote n) = record { number = 0; place = 0; size = n }
-reported_text TooManyQueries = record { number = 36; place = 0; size = 0 }
-reported_text (Refused x) = record { number = number_of x; place = place_of x; size = 0 }
+reported_text (Ok n) = record { number = 0; place = 0; size = n }
+reported_text (Err TooManyQueries) = record { number = 36; place = 0; size = 0 }
+reported_text (Err (Refused x)) = record { number = number_of x; place = place_of x; size = 0 }
 
 -- what a report gives for every sheet, list of states, table and output
 abbrev pub text_report_of : List ℕ → List ℕ → List ℕ → List ℕ → TextReport

@@ -5,7 +5,7 @@ use Rattle.text.specs.Placing.{Puts}
 use Rattle.calculus.specs.KeySheet.{K}
 use Rattle.judge.specs.SheetsToTry.{loops_elsewhere}
 use Rattle.report.specs.Reporting.{least_output, reported_text, WritesReport}
-use Rattle.report.specs.declared.Report.{Report}
+use Rattle.report.specs.Reporting.{Report}
 
 -- on every table of at least so many bytes and every output that is long enough, each call of `report` for these states writes this text
 abbrev pub Gives : List ℕ → ℕ → List ℕ → List ℕ → Type 0

@@ -5,8 +5,9 @@
 mod line;
 pub mod reporting;
 
-ghost use Rattle.std.specs.Prelude.{◌≡◌};
+ghost use Rattle.std.specs.Prelude.{◌≡◌, Err};
 ghost use Rattle.report.specs.Reporting.{reported_text};
+ghost use Rattle.report.specs.declared.ReportError.TheVariants.{Refused};
 
 use sheet::{Numbered, Refusal};
 
@@ -16,45 +17,37 @@ pub const MOST_QUERIES: usize = 64;
 // The shortest output that is taken: room for every report.
 pub const LEAST_OUTPUT: usize = 1036;
 
-// What a report answers: the length of its text, or why it was turned down.
+// Why a report is turned down: too many queries, or what clearing refuses, or an output that is too short.
 #[derive(Clone, Copy)]
-pub enum Report {
-    Wrote(usize),
+pub enum ReportError {
     TooManyQueries,
     Refused(Refusal),
 }
 
-impl Report {
-    // Its number: 0, 36 for too many queries, or that of the refusal.
-    pub fn number(self) -> u8
-        ensures { result ≡ (reported_text self).number }
-    {
+impl From<Refusal> for ReportError {
+    ghost from_gives = { λ x e. e ≡ Refused x };
+
+    fn from(x: Refusal) -> ReportError {
+        ReportError::Refused(x)
+    }
+}
+
+impl Numbered for ReportError {
+    ghost number = { λ e. (reported_text (Err e)).number };
+
+    ghost place = { λ e. (reported_text (Err e)).place };
+
+    fn number(&self) -> u8 {
         match self {
-            Report::Wrote(_) => 0,
-            Report::TooManyQueries => 36,
-            Report::Refused(x) => x.number(),
+            ReportError::TooManyQueries => 36,
+            ReportError::Refused(x) => x.number(),
         }
     }
 
-    // The place of the refusal, or 0.
-    pub fn place(self) -> u16
-        ensures { result ≡ (reported_text self).place }
-    {
+    fn place(&self) -> u16 {
         match self {
-            Report::Wrote(_) => 0,
-            Report::TooManyQueries => 0,
-            Report::Refused(x) => x.place(),
-        }
-    }
-
-    // The length of the text, 0 on a refusal.
-    pub fn length(self) -> usize
-        ensures { result ≡ (reported_text self).size }
-    {
-        match self {
-            Report::Wrote(n) => n,
-            Report::TooManyQueries => 0,
-            Report::Refused(_) => 0,
+            ReportError::TooManyQueries => 0,
+            ReportError::Refused(x) => x.place(),
         }
     }
 }

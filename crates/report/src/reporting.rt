@@ -3,12 +3,13 @@ ghost use Rattle.std.specs.Prelude.{◌≡◌};
 ghost use Rattle.report.specs.Text.{total_line};
 ghost use Rattle.report.specs.Reporting.{WritesReport};
 ghost use Rattle.report.specs.Internal.Lines.{FitsAt, PutsAt, LinesRequire, AddsLines};
-ghost use Rattle.report.specs.Internal.ShortOutput.{short_answer};
 
 use crate::line::add_line;
-use crate::{LEAST_OUTPUT, MOST_QUERIES, Report, Tally};
-use judge::{Cleared, Counted};
+use crate::{LEAST_OUTPUT, MOST_QUERIES, ReportError, Tally};
+use judge::clearing::clear;
+use judge::counting::stored_count;
 use sheet::{Refusal, State};
+use text::Writer;
 
 // Runs the queries in order on a cleared table, and puts their lines at the start of out.
 fn put_lines(sheet: &[u8], states: &[u8], table: &mut [u8], out: &mut [u8]) -> Tally
@@ -19,10 +20,8 @@ fn put_lines(sheet: &[u8], states: &[u8], table: &mut [u8], out: &mut [u8]) -> T
         visits: 0,
         length: 0,
     };
-    let mut i = 0;
-    while i < states.len() {
-        add_line(sheet, State(states[i]), table, out, &mut tally);
-        i += 1;
+    for &state in states {
+        add_line(sheet, State(state), table, out, &mut tally);
     }
     tally
 }
@@ -32,39 +31,32 @@ fn put_total(tally: Tally, out: &mut [u8]) -> usize
     requires { FitsAt (total_line tally.visits) tally.length out.old }
     ensures { PutsAt (total_line tally.visits) tally.length out.old result out.new }
 {
-    let after_word = text::put(b"total ", tally.length, out);
-    let after_visits = text::put_decimal(tally.visits as u64, after_word, out);
-    text::put(b"\n", after_visits, out)
+    let mut writer = Writer::at(tally.length, out);
+    writer.put(b"total ");
+    writer.put_decimal(tally.visits as u64);
+    writer.put(b"\n");
+    writer.place
 }
 
-// An output that is too short comes after what clearing refuses, and reading the count refuses the same and changes nothing.
-fn refuse_short(sheet: &[u8], table: &[u8]) -> Report
-    ensures { result ≡ short_answer sheet.now table.now }
-{
-    let counted = judge::counting::stored_count(sheet, table);
-    match counted {
-        Counted::Stored(_) => Report::Refused(Refusal::OutputShort),
-        Counted::Refused(x) => Report::Refused(x),
-    }
-}
-
-// "It clears the table, runs a list of up to 64 queries (state bytes) on one sheet and writes a line for each to an output buffer": number, place and the
-// length of the text. A refused report changes neither buffer.
-pub fn report(sheet: &[u8], states: &[u8], table: &mut [u8], out: &mut [u8]) -> Report
+// "It clears the table, runs a list of up to 64 queries (state bytes) on one sheet and writes a line for each to an output buffer": the length of the
+// text. A refused report changes neither buffer.
+pub fn report(
+    sheet: &[u8],
+    states: &[u8],
+    table: &mut [u8],
+    out: &mut [u8],
+) -> Result<usize, ReportError>
     ensures { WritesReport sheet.now states.now table.old out.old result table.new out.new }
 {
     if MOST_QUERIES < states.len() {
-        return Report::TooManyQueries;
+        return Err(ReportError::TooManyQueries);
     }
     if out.len() < LEAST_OUTPUT {
-        return refuse_short(sheet, table);
+        // What clearing refuses comes first: reading the count refuses the same, and changes nothing.
+        stored_count(sheet, table)?;
+        return Err(ReportError::Refused(Refusal::OutputShort));
     }
-    let cleared = judge::clearing::clear(sheet, table);
-    match cleared {
-        Cleared::Done => {
-            let tally = put_lines(sheet, states, table, out);
-            Report::Wrote(put_total(tally, out))
-        }
-        Cleared::Refused(x) => Report::Refused(x),
-    }
+    clear(sheet, table)?;
+    let tally = put_lines(sheet, states, table, out);
+    Ok(put_total(tally, out))
 }

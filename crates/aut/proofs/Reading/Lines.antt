@@ -33,6 +33,7 @@ line_joined f g l h t s = simp append_assoc
 
 pub line_back : (x : Rest) {s : List ℕ} → after_line x ≡ rest s
     → (w : List ℕ) × Took (λ (a : List ℕ). ReadsLine a (line_of x)) x w s
+    × (IsNumeral (numeral_of (from_at x)) × IsNumeral (numeral_of (to_at x)))
 unfolding after_line line_of
 line_back x {s} q =
     let to_end = after_numeral (to_at x) in
@@ -54,6 +55,7 @@ line_back x {s} q =
             byte_back open_parenthesis x f.whole
             ∙ ap rest (sym (line_joined (numeral_of (from_at x)) g.0 (label_of (label_at x)) h.0 (numeral_of (to_at x)) s));
       },
+      (f.is, t.is),
     )
 
 module _

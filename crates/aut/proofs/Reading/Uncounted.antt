@@ -14,7 +14,7 @@ line_long : {w : List ℕ} {x : TransitionLine} → ReadsLine w x → 1 ≤ leng
 line_long (transition_line_rule df sg al sh dt) = omega arith
 
 -- a line takes a byte at least
-shorter : (b : ℕ) (s : List ℕ) → length (left (after_line (rest (b ∷ s)))) ≤ length s
+pub shorter : (b : ℕ) (s : List ℕ) → length (left (after_line (rest (b ∷ s)))) ≤ length s
 shorter b s = go (after_line (rest (b ∷ s))) refl
   where
     go : (y : Rest) → after_line (rest (b ∷ s)) ≡ y → length (left y) ≤ length s
@@ -34,7 +34,7 @@ none_read zero = (refl, refl)
 none_read (suc n) = (refl, refl)
 
 -- one more than enough
-one_more : (n : ℕ) (x : Rest) → length (left x) ≤ n → (readable_from n x ≡ readable_from (suc n) x) × (lines_from n x ≡ lines_from (suc n) x)
+pub one_more : (n : ℕ) (x : Rest) → length (left x) ≤ n → (readable_from n x ≡ readable_from (suc n) x) × (lines_from n x ≡ lines_from (suc n) x)
 unfolding readable_from lines_from
 one_more zero failed h = (refl, refl)
 one_more zero (rest []) h = (refl, refl)

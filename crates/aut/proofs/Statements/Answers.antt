@@ -1,5 +1,6 @@
 -- The tests of the call hold exactly where their rules are kept, and what it answers by them.
 use Prim.Native.Nat.{ℕ, ◌<◌, ◌≤◌}
+use Rattle.std.proofs.Common.{Ok, Err}
 use mathlib.Core.Path.{◌≡◌, refl, sym, ap, subst}
 use mathlib.Core.Bool.{true, false, ◌&&◌, and-false}
 use mathlib.Core.List.Memᴰ
@@ -14,10 +15,9 @@ use Rattle.aut.specs.Texts.{FirstLine, TransitionLine}
 use Rattle.aut.specs.Reading.{unreadable, readable, reading_of}
 use Rattle.aut.specs.Plans.{labels_of, transitions_of, body_of}
 use Rattle.aut.specs.Converting.{first_line_right, states_below, states_in_range, within_limits, reported_conversion}
-use Rattle.aut.specs.Converting.{converted_of, output_after, Converts}
+use Rattle.aut.specs.Converting.{Converted, converted_of, output_after, Converts}
 use Rattle.aut.specs.ConversionCorrect.{StatesInRange, WithinLimits}
-use Rattle.aut.specs.declared.Converted.{Converted}
-use Rattle.aut.specs.declared.Converted.TheVariants.{Wrote, Malformed, StateOutOfRange, OverLimits, OutputShort}
+use Rattle.aut.specs.declared.ConvertError.TheVariants.{Malformed, StateOutOfRange, OverLimits, OutputShort}
 
 -- ---- the states of lines
 
@@ -100,34 +100,34 @@ module _ (text out : List ℕ) where
       → Converts text out r out'
   converts q o = (q, (ap reported_conversion q, o))
 
-  pub answers_unreadable : reading_of text ≡ unreadable → Converts text out Malformed out
+  pub answers_unreadable : reading_of text ≡ unreadable → Converts text out (Err Malformed) out
   unfolding converted_of output_after
   answers_unreadable q = converts (rw q refl) (rw q refl)
 
   module _ {h : FirstLine} {xs : List TransitionLine} (q : reading_of text ≡ readable h xs) where
-    pub answers_malformed : first_line_right h xs ≡ false → Converts text out Malformed out
+    pub answers_malformed : first_line_right h xs ≡ false → Converts text out (Err Malformed) out
     unfolding converted_of output_after
     answers_malformed f = converts (rw (q, f) refl) (rw (q, f) refl)
 
     module _ (f : first_line_right h xs ≡ true) where
-      pub answers_state : states_in_range h xs ≡ false → Converts text out StateOutOfRange out
+      pub answers_state : states_in_range h xs ≡ false → Converts text out (Err StateOutOfRange) out
       unfolding converted_of output_after
       answers_state s = converts (rw (q, f, s) refl) (rw (q, f, s) refl)
 
       module _ (s : states_in_range h xs ≡ true) where
-        pub answers_limits : within_limits h xs ≡ false → Converts text out OverLimits out
+        pub answers_limits : within_limits h xs ≡ false → Converts text out (Err OverLimits) out
         unfolding converted_of output_after
         answers_limits w = converts (rw (q, f, s, w) refl) (rw (q, f, s, w) refl)
 
         module _ (w : within_limits h xs ≡ true) where
-          pub answers_short : length out < length (body_of h.states xs) → Converts text out OutputShort out
+          pub answers_short : length out < length (body_of h.states xs) → Converts text out (Err OutputShort) out
           unfolding converted_of output_after
           answers_short l =
               let r = lt-leb (length (body_of h.states xs)) (length out) l in
               converts (rw (q, f, s, w, r) refl) (rw (q, f, s, w, r) refl)
 
           pub answers_wrote : length (body_of h.states xs) ≤ length out
-              → Converts text out (Wrote (length (body_of h.states xs)))
+              → Converts text out (Ok (length (body_of h.states xs)))
               (body_of h.states xs ++ drop (length (body_of h.states xs)) out)
           unfolding converted_of output_after
           answers_wrote l =

@@ -1,5 +1,6 @@
 -- What every call of `convert` answers, leaves and says. The statement is ConversionCorrect of specs/ConversionCorrect.antt.
 use Prim.Native.Nat.{ℕ, ◌≤◌}
+use Rattle.std.proofs.Common.{Ok, Err}
 use mathlib.Core.Path.{◌≡◌, refl, sym, ap, subst, ◌∙◌}
 use mathlib.Core.Bool.{true}
 use mathlib.Core.List.{List, ◌++◌}
@@ -11,11 +12,10 @@ use lib.Seq.{take_at}
 use Rattle.aut.specs.Texts.{FirstLine, TransitionLine, ReadsText}
 use Rattle.aut.specs.Reading.{TextReading, unreadable, readable, reading_of}
 use Rattle.aut.specs.Plans.{labels_of, transitions_of, body_of}
-use Rattle.aut.specs.Converting.{first_line_right, reported_conversion, Converts}
+use Rattle.aut.specs.Converting.{Converted, first_line_right, reported_conversion, Converts}
 use Rattle.aut.specs.ConversionCorrect.{WellFormedText, StatesInRange, WithinLimits, RefusedWith, AcceptedWith, PlanOfText}
 use Rattle.aut.specs.ConversionCorrect.{ConversionCorrect}
-use Rattle.aut.specs.declared.Converted.{Converted}
-use Rattle.aut.specs.declared.Converted.TheVariants.{Wrote, Malformed, StateOutOfRange, OverLimits, OutputShort}
+use Rattle.aut.specs.declared.ConvertError.TheVariants.{Malformed, StateOutOfRange, OverLimits, OutputShort}
 use Rattle.aut.proofs.Reading.Readings.{readings_exactly}
 use Rattle.aut.proofs.Plans.Labels.{labels_numbered}
 use Rattle.aut.proofs.Plans.Transitions.{transitions_merged}
@@ -109,28 +109,28 @@ module _ (text out : List ℕ) where
 
   refuses : {k : ℕ} → RefusedWith text (length out) k → Refuses k
   refuses (RefusedWith.no_reading none) =
-      refusing Malformed (answers_unreadable text out (no_reading (reading_of text) refl)) refl refl
+      refusing (Err Malformed) (answers_unreadable text out (no_reading (reading_of text) refl)) refl refl
     where
       no_reading : (r : TextReading) → reading_of text ≡ r → reading_of text ≡ unreadable
       no_reading unreadable q = q
       no_reading (readable h xs) q = absurd (none h xs ((readings_exactly text h xs).0 q))
   refuses (RefusedWith.other_count h xs r other) =
-      refusing Malformed (answers_malformed text out (read r) (other_count h xs other)) refl refl
+      refusing (Err Malformed) (answers_malformed text out (read r) (other_count h xs other)) refl refl
   refuses (RefusedWith.other_first h xs r other) =
-      refusing Malformed (answers_malformed text out (read r) (other_first h xs other)) refl refl
+      refusing (Err Malformed) (answers_malformed text out (read r) (other_first h xs other)) refl refl
   refuses (RefusedWith.first_over h xs w l) =
-      refusing StateOutOfRange (answers_state text out (read w.reads) (first_right_lem w) (first_over h xs l)) refl refl
+      refusing (Err StateOutOfRange) (answers_state text out (read w.reads) (first_right_lem w) (first_over h xs l)) refl refl
   refuses (RefusedWith.state_over h xs w x m o) =
-      refusing StateOutOfRange (answers_state text out (read w.reads) (first_right_lem w) (state_over h xs m o)) refl refl
+      refusing (Err StateOutOfRange) (answers_state text out (read w.reads) (first_right_lem w) (state_over h xs m o)) refl refl
   refuses (RefusedWith.over_limits h xs w s o) =
-      refusing OverLimits
+      refusing (Err OverLimits)
       (answers_limits text out (read w.reads) (first_right_lem w) (states_true h xs s) (over_limits h xs o)) refl refl
   refuses (RefusedWith.output_short h xs w s l short) =
-      refusing OutputShort
+      refusing (Err OutputShort)
       (answers_short text out (read w.reads) (first_right_lem w) (states_true h xs s) (limits_true h xs l) short) refl refl
 
   module _ (h : FirstLine) (xs : List TransitionLine) (a : AcceptedWith text (length out) h xs) where
-    writes : Converts text out (Wrote (length (body_of h.states xs)))
+    writes : Converts text out (Ok (length (body_of h.states xs)))
         (body_of h.states xs ++ drop (length (body_of h.states xs)) out)
     writes =
         answers_wrote text out (read a.well_formed.reads) (first_right_lem a.well_formed) (states_true h xs a.states_in_range_holds)
@@ -144,7 +144,7 @@ module _ (text out : List ℕ) where
     given r = let w = refuses r in ap (λ (x : Converted). (reported_conversion x).number) (same_answer w.converts).0 ∙ w.number_is
 
     module _ (h : FirstLine) (xs : List TransitionLine) (a : AcceptedWith text (length out) h xs) where
-      written : answer ≡ Wrote (length (body_of h.states xs))
+      written : answer ≡ Ok (length (body_of h.states xs))
       written = (same_answer (writes h xs a)).0
 
       none_given : (reported_conversion answer).number ≡ 0
@@ -179,11 +179,11 @@ module _ (text out : List ℕ) where
     refused n (inr (h, xs, a)) = absurd (n (none_given h xs a))
 
 place_none : (answer : Converted) → (reported_conversion answer).place ≡ 0
-place_none (Wrote n) = refl
-place_none Malformed = refl
-place_none StateOutOfRange = refl
-place_none OverLimits = refl
-place_none OutputShort = refl
+place_none (Ok n) = refl
+place_none (Err Malformed) = refl
+place_none (Err StateOutOfRange) = refl
+place_none (Err OverLimits) = refl
+place_none (Err OutputShort) = refl
 
 pub conversion_correct : ConversionCorrect
 conversion_correct =

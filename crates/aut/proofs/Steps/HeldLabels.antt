@@ -1,148 +1,143 @@
--- One turn of each loop over labels, and one label more.
-use Prim.Native.Nat.{ℕ, zero, suc, ◌+◌, ◌<◌, ◌≤◌}
-use mathlib.Core.Path.{◌≡◌, refl, sym, ap, ap₂, ◌∙◌}
-use mathlib.Core.Bool.{Bool, true, false, not, false≢true}
-use mathlib.Core.List.{List, [], ◌∷◌, ◌++◌}
-use mathlib.Core.Logic.{◌≢◌}
-use native.Mathlib.Omega.{arith}
+-- The labels held, and their checksums.
+use Rattle.std.proofs.Common.{◌≡◌, ◌≢◌, ℕ, zero, suc, ◌+◌, ◌<◌, ◌≤◌, Bool, true, false, Option, Some, None, not, ◌&&◌, cond, ltb, eqb, List, [], ◌∷◌, ◌++◌, length, take, drop, get_or, refl, sym, ap, subst, ◌∙◌, arith}
 use native.Mathlib.Numerals.{add-one}
-use lib.Dec.{ltb}
-use lib.ListN.{length, get_or, take, set}
-use lib.Seq.{slice, slice-cons, slice_empty, take-suc-set, take-set-le, get_or-take, length-take-le}
-use borrow.Author.Tests.{eq-eqb, ne_eqb, lt-ltb, le-ltb, ltb-true, ltb-false}
-use Rattle.sheet.specs.Bytes.{pick, byte}
-use Rattle.sheet.proofs.Checks.Bools.{fails}
+use Rattle.std.specs.Prelude.{unwrap_or}
+use lib.ListN.{set, length-set, drop_of_length-le}
+use lib.Seq.{take-suc-set, length-take-le, drop-cons, get_or-take}
+use borrow.Author.Tests.{eq-eqb, lt-ltb, le-ltb, ltb-false}
+use Rattle.std.specs.List.{position_or_len}
+use Rattle.std.specs.Str.{bytes_eq}
+use Rattle.std.proofs.lemmas.Slice.Eq.{bytes_eq-Decides}
+use Rattle.std.proofs.lemmas.Bool.Decides.{same_from_decides}
+use Rattle.sheet.specs.Bytes.{pick}
+use Rattle.sheet.proofs.Checks.Checks.{and_parts}
 use Rattle.text.specs.Comparing.{same_text}
 use Rattle.text.proofs.Comparing.{same_exactly}
-use Rattle.aut.specs.Texts.{is_label_byte}
-use Rattle.aut.specs.Plans.{label_number}
-use Rattle.aut.specs.Internal.Held.{label_from, labels_held, goes_on, mixed, sum_from, sum_of, sums_of, Holds}
-use Rattle.aut.proofs.Steps.Places.{front_pass, front_stop, front_end}
-
-pub going : (s : List ℕ) (i : ℕ) → goes_on s i ≡ true → (i < length s) × (label_from s i ≡ byte s i ∷ label_from s (i + 1))
-going s i e = go (ltb i (length s)) refl e
-  where
-    go : (p : Bool) → ltb i (length s) ≡ p → pick p (is_label_byte (byte s i)) false ≡ true → (i < length s) × (label_from s i ≡ byte s i ∷ label_from s (i + 1))
-    go true f k = let l = ltb-true i (length s) f in (l, front_pass is_label_byte s i l k)
-    go false f k = absurd (false≢true k)
-
-pub stopped : (s : List ℕ) (i : ℕ) → goes_on s i ≡ false → label_from s i ≡ []
-stopped s i e = go (ltb i (length s)) refl e
-  where
-    go : (p : Bool) → ltb i (length s) ≡ p → pick p (is_label_byte (byte s i)) false ≡ false → label_from s i ≡ []
-    go true f k = front_stop is_label_byte s i (ltb-true i (length s) f) k
-    go false f k = front_end is_label_byte s i (ltb-false i (length s) f)
-
-module _ (s : List ℕ) (i j : ℕ) (r : Bool) (e : same_text (label_from s i) (label_from s j) ≡ r) where
-  pub same_longer : goes_on s i ≡ true → goes_on s j ≡ false → false ≡ r
-  unfolding same_text
-  same_longer p q = sym (ap₂ same_text (going s i p).1 (stopped s j q)) ∙ e
-
-  pub same_differ : goes_on s i ≡ true → goes_on s j ≡ true → (byte s i ≡ byte s j → ⊥) → false ≡ r
-  unfolding same_text
-  same_differ p q n = sym (ap₂ same_text (going s i p).1 (going s j q).1 ∙ rw (ne_eqb (byte s i) (byte s j) n) refl) ∙ e
-
-  pub same_next : goes_on s i ≡ true → goes_on s j ≡ true → byte s i ≡ byte s j → same_text (label_from s (i + 1)) (label_from s (j + 1)) ≡ r
-  unfolding same_text
-  same_next p q n = sym (ap₂ same_text (going s i p).1 (going s j q).1 ∙ rw (eq-eqb (byte s i) (byte s j) n) refl) ∙ e
-
-  pub same_done : (b : Bool) → goes_on s i ≡ false → b ≡ goes_on s j → not b ≡ r
-  unfolding same_text
-  same_done true p q = sym (ap₂ same_text (stopped s i p) (going s j (sym q)).1) ∙ e
-  same_done false p q = sym (ap₂ same_text (stopped s i p) (stopped s j (sym q))) ∙ e
+use Rattle.aut.specs.Plans.{label_number, with_label}
+use Rattle.aut.specs.Internal.Held.{mixed, sum_from, sum_of, is_held, labels_in, Summed, Different, Holding}
+use Rattle.aut.specs.declared.labels.Held.{Held}
+use Rattle.aut.proofs.Plans.Labels.{number_bound}
+use Rattle.aut.proofs.Plans.Different.{with_different}
 
 -- ---- checksums
 
-module _ (s : List ℕ) (i sum r : ℕ) (e : sum_from sum (label_from s i) ≡ r) where
-  pub sum_next : (n : ℕ) → goes_on s i ≡ true → n ≡ mixed sum (byte s i) → sum_from n (label_from s (i + 1)) ≡ r
+module _ (l : List ℕ) (sum i : ℕ) where
+  pub sum_turn : i < length l → {n : ℕ} → n ≡ mixed sum (get_or l i 0) → sum_from n (drop (i + 1) l) ≡ sum_from sum (drop i l)
   unfolding sum_from
-  sum_next n p q = ap (λ (m : ℕ). sum_from m (label_from s (i + 1))) q ∙ sym (ap (sum_from sum) (going s i p).1) ∙ e
+  sum_turn h e =
+      ap (λ (m : ℕ). sum_from m (drop (i + 1) l)) e
+      ∙ ap (λ (j : ℕ). sum_from (mixed sum (get_or l i 0)) (drop j l)) (add-one i)
+      ∙ sym (ap (sum_from sum) (drop-cons l i 0 h))
 
-  pub sum_done : goes_on s i ≡ false → sum ≡ r
+  pub sum_end : length l ≤ i → sum ≡ sum_from sum (drop i l)
   unfolding sum_from
-  sum_done p = sym (ap (sum_from sum) (stopped s i p)) ∙ e
+  sum_end h = sym (ap (sum_from sum) (drop_of_length-le l h))
 
-other_sum : (l k : List ℕ) → sum_of l ≢ sum_of k → same_text l k ≡ false
-other_sum l k n = fails (same_text l k) (λ e. n (ap sum_of ((same_exactly l k).0 e)))
+-- ---- the labels
 
-held_at : (s ps : List ℕ) (i : ℕ) → i < length ps → get_or (labels_held s ps) i [] ≡ label_from s (get_or ps i 0)
-unfolding labels_held
-held_at s [] i h = absurd (omega arith)
-held_at s (p ∷ ps) zero h = refl
-held_at s (p ∷ ps) (suc i) h = held_at s ps i (omega arith)
+pub labels_length : (hs : List Held) → length (labels_in hs) ≡ length hs
+unfolding labels_in
+labels_length [] = refl
+labels_length (h ∷ hs) = ap suc (labels_length hs)
 
-sum_at : (ks : List (List ℕ)) (i : ℕ) → i < length ks → get_or (sums_of ks) i 0 ≡ sum_of (get_or ks i [])
-unfolding sums_of
-sum_at [] i h = absurd (omega arith)
-sum_at (k ∷ ks) zero h = refl
-sum_at (k ∷ ks) (suc i) h = sum_at ks i (omega arith)
+label_at : (hs : List Held) (i : ℕ) (d : Held) → i < length hs → get_or (labels_in hs) i [] ≡ (get_or hs i d).label.now
+unfolding labels_in
+label_at [] i d b = absurd (omega arith)
+label_at (h ∷ hs) zero d b = refl
+label_at (h ∷ hs) (suc i) d b = label_at hs i d (omega arith)
 
-pub held_length : (s ps : List ℕ) → length (labels_held s ps) ≡ length ps
-unfolding labels_held
-held_length s [] = refl
-held_length s (q ∷ ps) = ap suc (held_length s ps)
+labels_append : (hs : List Held) (h : Held) → labels_in (hs ++ h ∷ []) ≡ labels_in hs ++ h.label.now ∷ []
+unfolding labels_in
+labels_append [] h = refl
+labels_append (k ∷ hs) h = ap (k.label.now ∷◌) (labels_append hs h)
 
--- ---- a label among those held
+summed_append : (hs : List Held) (h : Held) → Summed hs → h.sum ≡ sum_of h.label.now → Summed (hs ++ h ∷ [])
+summed_append [] h s e = (e, tt)
+summed_append (k ∷ hs) h s e = (s.0, summed_append hs h s.1 e)
 
-module _ (s ps ss : List ℕ) (count at sum : ℕ) (h : count ≤ length ps) (g : Holds s (take count ps) (take count ss)) (q : sum ≡ sum_of (label_from s at)) where
-  abbrev l : List ℕ
-  l = label_from s at
+-- ---- one that is held
 
-  abbrev ks : List (List ℕ)
-  ks = labels_held s (take count ps)
+-- the place that is found, or how many there are
+pub found_or : (n many : ℕ) (r : Option ℕ) → n ≤ many → r ≡ cond (ltb n many) (Some n) None → unwrap_or r many ≡ n
+found_or n many r h e = ap (λ (o : Option ℕ). unwrap_or o many) e ∙ go (ltb n many) refl
+  where
+    go : (b : Bool) → ltb n many ≡ b → unwrap_or (cond b (Some n) None) many ≡ n
+    go true l = refl
+    go false l = omega (arith, ltb-false n many l)
 
-  label_is : (i : ℕ) → i < count → get_or ks i [] ≡ label_from s (get_or ps i 0)
-  label_is i k =
-      held_at s (take count ps) i (omega (arith, length-take-le count ps h)) ∙ ap (label_from s) (get_or-take count ps i 0 k)
+pub compared : (l k : List ℕ) (r : Bool) → r ≡ bytes_eq l k → r ≡ same_text k l
+compared l k r e =
+    same_from_decides r (same_text k l)
+    (λ h. sym ((bytes_eq-Decides l k).0 (sym e ∙ h)), λ h. e ∙ (bytes_eq-Decides l k).1 (sym h))
+    (λ h. (same_exactly k l).0 h, λ h. (same_exactly k l).1 h)
 
-  sum_is : (i : ℕ) → i < count → get_or ss i 0 ≡ sum_of (label_from s (get_or ps i 0))
-  sum_is i k =
-      sym (get_or-take count ss i 0 k) ∙ ap (λ (x : List ℕ). get_or x i 0) g.sums_are
-      ∙ sum_at ks i (omega (arith, held_length s (take count ps), length-take-le count ps h)) ∙ ap sum_of (label_is i k)
+module _ (l : List ℕ) (sum : ℕ) (q : sum ≡ sum_of l) where
+  -- the checksum decides nothing that the label does not
+  same_held : (h : Held) → h.sum ≡ sum_of h.label.now → is_held l sum h ≡ same_text l h.label.now
+  same_held h e = go (same_text l h.label.now) refl
+    where
+      go : (b : Bool) → same_text l h.label.now ≡ b → (eqb h.sum sum && b) ≡ b
+      go true t = rw (eq-eqb h.sum sum (e ∙ ap sum_of (sym ((same_exactly l h.label.now).0 t)) ∙ sym q)) refl
+      go false t = none (eqb h.sum sum)
+        where
+          none : (a : Bool) → (a && false) ≡ false
+          none true = refl
+          none false = refl
 
-  pub other_label : (i : ℕ) → i < count → get_or ss i 0 ≢ sum → false ≡ same_text l (label_from s (get_or ps i 0))
-  other_label i k n = sym (other_sum l (label_from s (get_or ps i 0)) (λ d. n (sum_is i k ∙ sym d ∙ sym q)))
+  pub number_found : (hs : List Held) → Summed hs → position_or_len (is_held l sum) hs ≡ label_number l (labels_in hs)
+  unfolding label_number labels_in
+  number_found [] s = refl
+  number_found (h ∷ hs) s =
+      ap (λ (b : Bool). cond (not b) (1 + position_or_len (is_held l sum) hs) 0) (same_held h s.0)
+      ∙ go (same_text l h.label.now) (number_found hs s.1)
+    where
+      go : (b : Bool) → position_or_len (is_held l sum) hs ≡ label_number l (labels_in hs)
+          → cond (not b) (1 + position_or_len (is_held l sum) hs) 0 ≡ pick b 0 (suc (label_number l (labels_in hs)))
+      go true e = refl
+      go false e = omega arith
 
   -- the label tried first is the one
-  pub hint_right : (i : ℕ) → i < count → true ≡ same_text l (label_from s (get_or ps i 0)) → i ≡ label_number l ks
-  hint_right i k t =
-      let e : l ≡ get_or ks i [] = (same_exactly l (label_from s (get_or ps i 0))).0 (sym t) ∙ sym (label_is i k) in
-      sym (ap (λ (m : List ℕ). label_number m ks) e ∙ g.different.at i (omega (arith, held_length s (take count ps), length-take-le count ps h)))
-
-  -- what comes from place i on
-  abbrev pub found_from : ℕ → ℕ
-  found_from i = label_number l (labels_held s (slice i count ps))
-
-  find_split : (i : ℕ) → i < count → found_from i ≡ pick (same_text l (label_from s (get_or ps i 0))) 0 (suc (found_from (i + 1)))
-  unfolding label_number labels_held
-  find_split i k =
-      ap (λ (x : List ℕ). label_number l (labels_held s x))
-      (slice-cons i count ps 0 k h ∙ ap (λ (j : ℕ). get_or ps i 0 ∷ slice j count ps) (sym (add-one i)))
-
-  module _ (i r : ℕ) (e : i + found_from i ≡ r) where
-    pub find_here : i < count → true ≡ same_text l (label_from s (get_or ps i 0)) → i ≡ r
-    find_here k t =
-        let z : found_from i ≡ 0 = find_split i k ∙ rw (sym t) refl in
-        omega arith
-
-    pub find_next : i < count → false ≡ same_text l (label_from s (get_or ps i 0)) → i + 1 + found_from (i + 1) ≡ r
-    find_next k t =
-        let z : found_from i ≡ suc (found_from (i + 1)) = find_split i k ∙ rw (sym t) refl in
-        omega arith
-
-    pub find_done : i ≡ count → i ≡ r
-    unfolding label_number labels_held
-    find_done d =
-        let z : found_from i ≡ 0 =
-        ap (λ (x : List ℕ). label_number l (labels_held s x)) (ap (λ (k : ℕ). slice k count ps) d ∙ slice_empty count ps) in
-        omega arith
+  pub hint_right : (held : List Held) (count : ℕ) → Holding held count → (i : ℕ) (d : Held) → i < count
+      → is_held l sum (get_or held i d) ≡ true → i ≡ label_number l (labels_in (take count held))
+  hint_right held count g i d b t =
+      let hs = take count held in
+      let k : Held = get_or held i d in
+      let n = length-take-le count held (omega (arith, g.array, g.within)) in
+      let e : l ≡ get_or (labels_in hs) i [] =
+      (same_exactly l k.label.now).0 (and_parts (eqb k.sum sum) (same_text l k.label.now) t).1
+      ∙ sym (label_at hs i d (omega arith) ∙ ap (λ (h : Held). h.label.now) (get_or-take count held i d b)) in
+      sym (ap (λ (m : List ℕ). label_number m (labels_in hs)) e ∙ g.different.at i (omega (arith, labels_length hs)))
 
 -- ---- one label more
 
-module _ (ps : List ℕ) (count n at : ℕ) where
-  pub hold_again : n < count → take count (set ps count at) ≡ pick (ltb n count) (take count ps) (take count ps ++ at ∷ [])
-  hold_again h = take-set-le count ps count at (omega arith) ∙ sym (rw (lt-ltb n count h) refl)
+module _ (held : List Held) (count : ℕ) (g : Holding held count) where
+  abbrev ks : List (List ℕ)
+  ks = labels_in (take count held)
 
-  pub hold_new : count < length ps → count ≤ n → take (count + 1) (set ps count at) ≡ pick (ltb n count) (take count ps) (take count ps ++ at ∷ [])
-  hold_new h k =
-      ap (λ (m : ℕ). take m (set ps count at)) (add-one count) ∙ take-suc-set ps count at h ∙ sym (rw (le-ltb n count k) refl)
+  pub many : length ks ≡ count
+  many = labels_length (take count held) ∙ length-take-le count held (omega (arith, g.array, g.within))
+
+  module _ (l : List ℕ) (n : ℕ) (e : n ≡ label_number l ks) where
+    pub number_within : n ≤ count
+    number_within = omega (arith, number_bound l ks, many)
+
+    pub held_already : n ≢ count → ks ≡ with_label l ks
+    held_already d = sym (rw (lt-ltb (label_number l ks) (length ks) (omega (arith, number_within, many))) refl)
+
+    module _ (h : Held) (is : h.label.now ≡ l) (room : count < 256) (z : n ≡ count) where
+      now_held : take (count + 1) (set held n h) ≡ take count held ++ h ∷ []
+      now_held = (λ i. take (add-one count i) (set held (z i) h)) ∙ take-suc-set held count h (omega (arith, g.array))
+
+      pub label_added : labels_in (take (count + 1) (set held n h)) ≡ with_label l ks
+      label_added =
+          ap labels_in now_held ∙ labels_append (take count held) h ∙ ap (λ (k : List ℕ). ks ++ k ∷ []) is
+          ∙ sym (rw (le-ltb (label_number l ks) (length ks) (omega (arith, many))) refl)
+
+      pub still_holding : h.sum ≡ sum_of h.label.now → Holding (set held n h) (count + 1)
+      still_holding q =
+          record {
+            array = length-set held n h ∙ g.array;
+            within = omega arith;
+            summed = subst Summed (sym now_held) (summed_append (take count held) h g.summed q);
+            different = subst Different (sym label_added) (with_different l ks g.different);
+          }

@@ -1,97 +1,52 @@
--- The lines from a place on, and what the places of a line's parts hold.
-use Prim.Native.Nat.{ℕ, zero, suc, ◌+◌, ◌-◌, ◌<◌, ◌≤◌}
-use mathlib.Core.Path.{◌≡◌, refl, sym, ap, subst, ◌∙◌}
-use mathlib.Core.Bool.{true, false}
-use mathlib.Core.List.{List, [], ◌∷◌, ◌++◌}
-use native.Mathlib.Omega.{arith}
-use lib.ListN.{length, take, drop, length-drop, length-append}
-use lib.Seq.{take_at}
-use Rattle.text.specs.Numerals.{decimal_value}
-use Rattle.aut.specs.Scanning.{Rest, failed, rest, after_numeral, numeral_of, label_of, after_line, line_of, case_rest, readable_from, lines_from}
-use Rattle.aut.specs.Internal.Held.{label_from}
-use Rattle.aut.specs.Internal.Places.{rest_at, between, LineParts}
-use Rattle.aut.specs.declared.lines.LinePlaces.{LinePlaces}
-use Rattle.aut.proofs.Reading.Pieces.{left, IsNumeral, numeral_back}
-use Rattle.aut.proofs.Steps.Places.{here, in_text, past, at_end}
+-- The lines of a text, read one by one.
+use Rattle.std.proofs.Common.{◌≡◌, ℕ, zero, suc, ◌+◌, ◌-◌, ◌<◌, ◌≤◌, true, false, List, [], ◌∷◌, length, refl, sym, ap, ◌∙◌, arith}
+use Rattle.aut.specs.Scanning.{Rest, failed, rest, after_line, line_of, readable_from, lines_from}
+use Rattle.aut.specs.Internal.Passing.{readable, lines}
+use Rattle.aut.proofs.Reading.Pieces.{left}
+use Rattle.aut.proofs.Reading.Uncounted.{shorter, one_more}
 
--- ---- one line more: the lines read so far are taken from the number of lines that there can be
+-- more than enough is enough
+enough : (x : Rest) (n m : ℕ) → length (left x) ≤ n
+    → (readable_from n x ≡ readable_from (n + m) x) × (lines_from n x ≡ lines_from (n + m) x)
+enough x n zero h = let e : n + 0 ≡ n = omega arith in (sym (ap (λ (k : ℕ). readable_from k x) e), sym (ap (λ (k : ℕ). lines_from k x) e))
+enough x n (suc m) h =
+    let e : n + suc m ≡ suc (n + m) = omega arith in
+    let k = enough x n m h in
+    let o = one_more (n + m) x (omega arith) in (
+      k.0 ∙ o.0 ∙ sym (ap (λ (j : ℕ). readable_from j x) e),
+      k.1 ∙ o.1 ∙ sym (ap (λ (j : ℕ). lines_from j x) e),
+    )
 
-module _ (s : List ℕ) (at next count : ℕ) (h : count ≤ at) (k : at < length s) (e : rest_at s next ≡ after_line (rest_at s at)) where
-  some_left : {A : Type 0} (a b c : A) → case_rest (rest_at s at) a b c ≡ c
-  some_left a b c = ap (λ (x : Rest). case_rest x a b c) (in_text s at k)
+pub counted : (t : List ℕ) (n : ℕ) → length t ≤ n → (readable_from n (rest t) ≡ readable t) × (lines_from n (rest t) ≡ lines t)
+counted t n h =
+    let e : n ≡ length t + (n - length t) = omega arith in
+    let k = enough (rest t) (length t) (n - length t) (omega arith) in
+    (ap (λ (j : ℕ). readable_from j (rest t)) e ∙ sym k.0, ap (λ (j : ℕ). lines_from j (rest t)) e ∙ sym k.1)
 
-  fewer : length s - count ≡ suc (length s - (count + 1))
-  fewer = omega arith
+-- a line, and the lines after it
+pub one_line : (r : List ℕ) {t : List ℕ} → 1 ≤ length r → after_line (rest r) ≡ rest t
+    → (readable r ≡ readable t) × (lines r ≡ line_of (rest r) ∷ lines t) × (length t < length r)
+unfolding readable_from lines_from
+one_line [] h e = absurd (omega arith)
+one_line (b ∷ s) {t} h e =
+    let n : length t ≤ length s = omega (arith, shorter b s, ap (λ (x : Rest). length (left x)) e) in
+    let k = counted t (length s) n in (
+      ap (readable_from (length s)) e ∙ k.0,
+      ap (λ (x : Rest). line_of (rest (b ∷ s)) ∷ lines_from (length s) x) e ∙ ap (line_of (rest (b ∷ s)) ∷◌) k.1,
+      omega arith,
+    )
 
-  pub readable_next : readable_from (length s - count) (rest_at s at) ≡ readable_from (length s - (count + 1)) (rest_at s next)
-  unfolding readable_from
-  readable_next =
-      ap (λ (f : ℕ). readable_from f (rest_at s at)) fewer
-      ∙ some_left false true (readable_from (length s - (count + 1)) (after_line (rest_at s at)))
-      ∙ ap (readable_from (length s - (count + 1))) (sym e)
-
-  pub lines_next : lines_from (length s - count) (rest_at s at) ≡ line_of (rest_at s at) ∷ lines_from (length s - (count + 1)) (rest_at s next)
-  unfolding lines_from
-  lines_next =
-      ap (λ (f : ℕ). lines_from f (rest_at s at)) fewer
-      ∙ some_left [] [] (line_of (rest_at s at) ∷ lines_from (length s - (count + 1)) (after_line (rest_at s at)))
-      ∙ ap (λ (x : Rest). line_of (rest_at s at) ∷ lines_from (length s - (count + 1)) x) (sym e)
-
--- ---- no line more
-
-readable_failed : (f : ℕ) → readable_from f failed ≡ false
+pub none_read : (n : ℕ) → readable_from n failed ≡ false
 unfolding readable_from
-readable_failed zero = refl
-readable_failed (suc f) = refl
+none_read zero = refl
+none_read (suc n) = refl
 
-readable_end : (f : ℕ) → readable_from f (rest []) ≡ true
+pub not_a_line : (r : List ℕ) → 1 ≤ length r → after_line (rest r) ≡ failed → readable r ≡ false
 unfolding readable_from
-readable_end zero = refl
-readable_end (suc f) = refl
+not_a_line [] h e = absurd (omega arith)
+not_a_line (b ∷ s) h e = ap (readable_from (length s)) e ∙ none_read (length s)
 
-lines_end : (f : ℕ) → lines_from f (rest []) ≡ []
-unfolding lines_from
-lines_end zero = refl
-lines_end (suc f) = refl
-
-pub readable_past : (s : List ℕ) (at f : ℕ) → length s < at → readable_from f (rest_at s at) ≡ false
-readable_past s at f h = ap (readable_from f) (past s at h) ∙ readable_failed f
-
-pub readable_all : (s : List ℕ) (at f : ℕ) → at ≡ length s → readable_from f (rest_at s at) ≡ true
-readable_all s at f h = ap (readable_from f) (at_end s at h) ∙ readable_end f
-
-pub lines_all : (s : List ℕ) (at f : ℕ) → at ≡ length s → lines_from f (rest_at s at) ≡ []
-lines_all s at f h = ap (lines_from f) (at_end s at h) ∙ lines_end f
-
--- ---- the parts of a line
-
--- w at the front of what is left stands between two places
-front_between : (s : List ℕ) (a e : ℕ) (w : List ℕ) → a ≤ e → e ≤ length s → rest_at s a ≡ rest (w ++ drop e s) → between s a e ≡ w
-front_between s a e w h k q =
-    let d : drop a s ≡ w ++ drop e s = ap left (sym (here s a (omega arith)) ∙ q) in
-    let n : length w ≡ e - a = omega (arith, sym (length-drop a s) ∙ ap length d ∙ length-append w (drop e s), length-drop e s) in
-    ap (take (e - a)) d ∙ take_at w (drop e s) (e - a) n
-
--- a numeral that begins at one place and ends at the other
-pub numeral_between : (s : List ℕ) (a e : ℕ) → a ≤ e → e ≤ length s → rest_at s e ≡ after_numeral (rest_at s a)
-    → (between s a e ≡ numeral_of (rest_at s a)) × IsNumeral (numeral_of (rest_at s a))
-numeral_between s a e h k q =
-    let t = numeral_back (rest_at s a) (sym q ∙ here s e k) in
-    (front_between s a e (numeral_of (rest_at s a)) h k t.whole, t.is)
-
-module _ (s : List ℕ) (at : ℕ) (x : LinePlaces) (p : LineParts s at x) (h : x.next ≤ length s) where
-  pub from_read : (decimal_value (between s x.from x.comma) ≡ (line_of (rest_at s at)).from) × IsNumeral (between s x.from x.comma)
-  unfolding line_of
-  from_read =
-      let r = numeral_between s x.from x.comma p.from_order.1.0 (omega (arith, p.from_order)) p.from_ends in
-      (ap decimal_value (r.0 ∙ ap numeral_of p.from_is), subst IsNumeral (sym r.0) r.1)
-
-  pub to_read : (decimal_value (between s x.to x.close) ≡ (line_of (rest_at s at)).to) × IsNumeral (between s x.to x.close)
-  unfolding line_of
-  to_read =
-      let r = numeral_between s x.to x.close p.to_order.0 (omega (arith, p.to_order)) p.to_ends in
-      (ap decimal_value (r.0 ∙ ap numeral_of p.to_is), subst IsNumeral (sym r.0) r.1)
-
-  pub label_read : label_from s x.label ≡ (line_of (rest_at s at)).label
-  unfolding line_of
-  label_read = ap label_of (sym (here s x.label (omega (arith, p.label_order))) ∙ p.label_is)
+pub no_line : (r : List ℕ) → length r ≡ 0 → (readable r ≡ true) × (lines r ≡ [])
+unfolding readable_from lines_from
+no_line [] h = (refl, refl)
+no_line (b ∷ s) h = absurd (omega arith)

@@ -1,250 +1,205 @@
--- The pass over the lines: what it holds at a place, where it begins, one line more, and where it ends.
-use Prim.Native.Nat.{ℕ, ◌+◌, ◌-◌, ◌<◌, ◌≤◌}
-use native.Mathlib.Nat.{sub-zero}
-use mathlib.Core.Path.{◌≡◌, refl, sym, ap, ap₂, subst, ◌∙◌}
-use mathlib.Core.Bool.{Bool, true, false, ◌&&◌, and_assoc, and-true}
-use mathlib.Core.List.{List, [], ◌∷◌}
-use native.Mathlib.Omega.{arith}
-use lib.Dec.{ltb, leb}
-use lib.ListN.{length, take}
-use borrow.Author.Tests.{leb-true, eq-eqb, ne_eqb}
-use Rattle.sheet.specs.Bytes.{slice}
+-- The pass over the lines: what it holds, where it begins, one line more, and where it ends.
+use Rattle.std.proofs.Common.{◌≡◌, ℕ, ◌+◌, ◌≤◌, Bool, true, false, ◌&&◌, ltb, leb, List, [], ◌∷◌, ◌++◌, length, refl, sym, ap, ◌∙◌, arith}
+use mathlib.Core.Bool.{and_assoc, and-true}
+use lib.ListN.{length-append}
+use borrow.Author.Tests.{leb-true, le-leb}
+use Rattle.sheet.specs.Bytes.{pick}
 use Rattle.sheet.proofs.Checks.Checks.{and_parts, all}
 use Rattle.text.specs.Numerals.{decimal_value}
 use Rattle.aut.specs.Texts.{TransitionLine}
-use Rattle.aut.specs.Scanning.{rest, after_first_line, line_of, readable_from, lines_from, text_readable, text_first_line, text_lines}
-use Rattle.aut.specs.Plans.{labels_from, labels_of, merged_into, transitions_of}
+use Rattle.aut.specs.Scanning.{failed, rest, after_line, line_of}
+use Rattle.aut.specs.Plans.{label_number, with_label, labels_from, labels_of, merged_into, transitions_of}
 use Rattle.aut.specs.Converting.{states_below}
 use Rattle.aut.specs.Internal.Digits.{below_digits}
-use Rattle.aut.specs.Internal.Places.{rest_at, between, LineParts, FirstParts}
-use Rattle.aut.specs.Internal.Held.{labels_held, sums_of, Holds}
-use Rattle.aut.specs.Internal.Keys.{transitions_held, Rising}
-use Rattle.aut.specs.Internal.Passing.{RoomForAll, Within, Added, AddedWithin, added, kept, PassedOver}
-use Rattle.aut.specs.declared.lines.LinePlaces.{LinePlaces}
-use Rattle.aut.specs.declared.lines.FirstPlaces.{FirstPlaces}
-use Rattle.aut.specs.declared.pass.Counts.{Counts}
+use Rattle.aut.specs.Internal.Pieces.{InLine}
+use Rattle.aut.specs.Internal.Keys.{transitions_held, insert_key}
+use Rattle.aut.specs.Internal.Passing.{Within, within, added, readable, lines, Passed}
+use Rattle.aut.specs.declared.lines.Line.{Line}
+use Rattle.aut.specs.declared.pass.Gathered.{Gathered}
 use Rattle.aut.specs.declared.pass.Pass.{Pass}
 use Rattle.aut.proofs.Reading.Pieces.{IsNumeral}
-use Rattle.aut.proofs.Steps.KeyOrder.{insert_rising}
-use Rattle.aut.proofs.Steps.Lines.{readable_next, lines_next, readable_past, readable_all, lines_all}
-use Rattle.aut.proofs.Steps.Adding.{states_tested, labels_on, transitions_on, labels_least, transitions_least}
+use Rattle.aut.proofs.Plans.Labels.{labels_longer}
+use Rattle.aut.proofs.Plans.Transitions.{transitions_longer}
+use Rattle.aut.proofs.Steps.KeyOrder.{transitions_length}
+use Rattle.aut.proofs.Steps.Lines.{one_line, not_a_line, no_line}
+use Rattle.aut.proofs.Steps.Adding.{states_tested, labels_on, transitions_on}
 
--- the first line is read up to a place, and the digits of the stated number stand at another
-pub record FirstRead (s : List ℕ) (start states digits : ℕ) : Type 0 where
-  pub start_is : rest_at s start ≡ after_first_line (rest s)
-  pub stated_is : decimal_value (slice s states digits) ≡ (text_first_line s).states
-  pub is_numeral : IsNumeral (slice s states digits)
-  pub digits_within : states + digits ≤ length s
+-- the labels and keys gathered, of the lines xs, of which ys are left
+pub record Gathering (xs ys : List TransitionLine) (g : Gathered) : Type 0 where
+  pub labels_least : length g.labels ≤ length (labels_of xs)
+  pub keys_least : length g.keys ≤ length (transitions_of xs)
+  pub labels_left : Within g → labels_from g.labels ys ≡ labels_of xs
+  pub keys_left : Within g → merged_into (labels_of xs) (transitions_held g.keys) ys ≡ transitions_of xs
 
--- the labels and keys held, of the lines xs, of which ys are left
-pub record Holding (s : List ℕ) (xs ys : List TransitionLine) (ps ks : List ℕ) (held : Counts) : Type 0 where
-  pub labels_least : held.labels ≤ length (labels_of xs)
-  pub keys_least : held.keys ≤ length (transitions_of xs)
-  pub labels_left : Within held → labels_from (labels_held s (take held.labels ps)) ys ≡ labels_of xs
-  pub keys_left : Within held → merged_into (labels_of xs) (transitions_held (take held.keys ks)) ys ≡ transitions_of xs
+-- of the text s the lines before r have been read; N is the stated number of states
+pub record Passing (s : List ℕ) (N : ℕ) (few : Bool) (r : List ℕ) (p : Pass) (g : Gathered) : Type 0 where
+  pub counted : p.lines + length r ≤ length s
+  pub readable_left : readable s ≡ readable r
+  pub lines_left : length (lines s) ≡ p.lines + length (lines r)
+  pub below_left : states_below N (lines s) ≡ (p.below && states_below N (lines r))
+  pub few_labels : length g.labels ≤ 256
+  pub few_keys : length g.keys ≤ 2049
+  pub gathering : p.below ≡ true → few ≡ true → Gathering (lines s) (lines r) g
 
--- the lines from a place on, so many having been read
-abbrev pub lines_left : List ℕ → ℕ → ℕ → List TransitionLine
-lines_left s lines at = lines_from (length s - lines) (rest_at s at)
-
-pub record Passing (s : List ℕ) (few : Bool) (ps ss hs ks : List ℕ) (at lines : ℕ) (right : Bool) (held : Counts) : Type 0 where
-  pub counted : lines ≤ at
-  pub within : at ≤ length s
-  pub readable_left : text_readable s ≡ readable_from (length s - lines) (rest_at s at)
-  pub lines_left_lem : length (text_lines s) ≡ lines + length (lines_left s lines at)
-  pub below_left : states_below (text_first_line s).states (text_lines s) ≡ (right && states_below (text_first_line s).states (lines_left s lines at))
-  pub room : RoomForAll ps ss hs ks
-  pub few_labels : held.labels ≤ 256
-  pub few_keys : held.keys ≤ 2049
-  pub rising : Rising (take held.keys ks)
-  pub holds : Holds s (take held.labels ps) (take held.labels ss)
-  pub holding : right ≡ true → few ≡ true → Holding s (text_lines s) (lines_left s lines at) ps ks held
-
--- ---- where it begins
-
-pub passing_start : (s : List ℕ) (few : Bool) (start states digits : ℕ) → FirstRead s start states digits → start ≤ length s
-    → (ps ss hs ks : List ℕ) → RoomForAll ps ss hs ks → Passing s few ps ss hs ks start 0 true (record { labels = 0; keys = 0 })
-unfolding labels_held sums_of transitions_held text_readable
-passing_start s few start states digits f h ps ss hs ks r =
-    let z : length s - 0 ≡ length s = sub-zero (length s) in
-    let e : text_lines s ≡ lines_left s 0 start =
-    ap (lines_from (length s)) (sym f.start_is) ∙ ap (λ (n : ℕ). lines_from n (rest_at s start)) (sym z) in
+pub passing_start : (s : List ℕ) (N : ℕ) (few : Bool) (g : Gathered) → g.labels ≡ [] → g.keys ≡ []
+    → Passing s N few s (record { lines = 0; below = true }) g
+unfolding transitions_held
+passing_start s N few g e f =
+    let l = ap length e in
+    let k = ap length f in
     record {
       counted = omega arith;
-      within = h;
-      readable_left = ap (readable_from (length s)) (sym f.start_is) ∙ ap (λ (n : ℕ). readable_from n (rest_at s start)) (sym z);
-      lines_left_lem = omega (arith, ap length e);
-      below_left = ap (states_below (text_first_line s).states) e;
-      room = r;
+      readable_left = refl;
+      lines_left = omega arith;
+      below_left = refl;
       few_labels = omega arith;
       few_keys = omega arith;
-      rising = tt;
-      holds = record { sums_are = refl; different = record { at = λ i l. absurd (omega arith) } };
-      holding = λ _ _.
+      gathering = λ _ _.
           record {
             labels_least = omega arith;
             keys_least = omega arith;
-            labels_left = λ _. ap labels_of (sym e);
-            keys_left = λ _. ap (merged_into (labels_of (text_lines s)) []) (sym e);
+            labels_left = λ _. ap (λ (ls : List (List ℕ)). labels_from ls (lines s)) e;
+            keys_left = λ _. ap (λ (ks : List ℕ). merged_into (labels_of (lines s)) (transitions_held ks) (lines s)) f;
           };
     }
 
 -- ---- one line more
 
-module _ (s : List ℕ) (few : Bool) (ps ss hs ks : List ℕ) (at lines : ℕ) (right : Bool) (held : Counts)
-    (g : Passing s few ps ss hs ks at lines right held) (h : at < length s) (x : LinePlaces) (p : LineParts s at x) (w : x.next ≤ length s) where
-  abbrev line : TransitionLine
-  line = line_of (rest_at s at)
+with_one : (l : List ℕ) (ks : List (List ℕ)) → length (with_label l ks) ≤ length ks + 1
+with_one l ks = go (ltb (label_number l ks) (length ks))
+  where
+    go : (b : Bool) → length (pick b ks (ks ++ l ∷ [])) ≤ length ks + 1
+    go true = omega arith
+    go false = omega (arith, length-append ks (l ∷ []))
 
-  abbrev left : List TransitionLine
-  left = lines_left s (lines + 1) x.next
+key_one : (k : ℕ) (ks : List ℕ) → length (insert_key k ks) ≤ length ks + 1
+unfolding insert_key
+key_one k [] = omega arith
+key_one k (j ∷ ks) = go (ltb j k) (ltb k j) (key_one k ks)
+  where
+    go : (p q : Bool) → length (insert_key k ks) ≤ length ks + 1
+        → length (pick p (j ∷ insert_key k ks) (pick q (k ∷ j ∷ ks) (j ∷ ks))) ≤ length (j ∷ ks) + 1
+    go true q h = omega arith
+    go false true h = omega arith
+    go false false h = omega arith
 
-  left_is : lines_left s lines at ≡ line ∷ left
-  left_is = lines_next s at x.next lines g.counted h p.next_is
+key_small : (line : Line) (g : Gathered) → length (added line g).keys ≤ length g.keys + 1
+key_small line g = key_one _ g.keys
 
-  abbrev N : ℕ
-  N = (text_first_line s).states
+pub is_within : (g : Gathered) → within g ≡ true → Within g
+is_within g e =
+    let p = and_parts (leb (length g.labels) 255) (leb (length g.keys) 2048) e in
+    record { few_labels = leb-true (length g.labels) 255 p.0; few_keys = leb-true (length g.keys) 2048 p.1 }
 
-  -- the test of the line's states
-  abbrev tested : Bool
-  tested = ltb line.from N && ltb line.to N
+within_is : (g : Gathered) → Within g → within g ≡ true
+within_is g w = all _ _ (le-leb (length g.labels) 255 w.few_labels) (le-leb (length g.keys) 2048 w.few_keys)
 
-  below_next : states_below N (text_lines s) ≡ (right && tested && states_below N left)
-  unfolding states_below
-  below_next = g.below_left ∙ ap (λ (xs : List TransitionLine). right && states_below N xs) left_is ∙ sym (and_assoc right tested (states_below N left))
+module _ (s : List ℕ) (S : List ℕ) (few : Bool) (r : List ℕ) (p : Pass) (g : Gathered) (h : Passing s (decimal_value S) few r p g)
+    (some : 1 ≤ length r) where
+  pub unreadable : after_line (rest r) ≡ failed → readable s ≡ false
+  unreadable e = h.readable_left ∙ not_a_line r some e
 
-  module _ (qs zs js : List ℕ) (r : Counts) where
-    -- with the label and the transition added
-    holding_added : N ≤ 128 → tested ≡ true → Holding s (text_lines s) (lines_left s lines at) ps ks held → Within held
-        → Added s x ps ks held qs zs js r → 256 ≤ length qs → 2049 ≤ length js → Holding s (text_lines s) left qs js r
-    holding_added few_states t o i a places_room keys_room =
-        let e : labels_from (labels_held s (take held.labels ps)) (line ∷ left) ≡ labels_of (text_lines s) =
-        ap (labels_from (labels_held s (take held.labels ps))) (sym left_is) ∙ o.labels_left i in
-        let f : merged_into (labels_of (text_lines s)) (transitions_held (take held.keys ks)) (line ∷ left) ≡ transitions_of (text_lines s) =
-        ap (merged_into (labels_of (text_lines s)) (transitions_held (take held.keys ks))) (sym left_is) ∙ o.keys_left i in
-        let l = labels_on s at x p w N few_states t ps ks held i g.room.places_room qs zs js r a left (labels_of (text_lines s)) e in
-        let k =
-        transitions_on s at x p w N few_states t ps ks held i g.room.places_room qs zs js r a left (labels_of (text_lines s))
-        (transitions_of (text_lines s)) e f in
+  module _ (t : List ℕ) (e : after_line (rest r) ≡ rest t) (line : Line) (is : InLine (rest r) line) (n : IsNumeral S)
+      (q : few ≡ leb (decimal_value S) 128) where
+    abbrev N : ℕ
+    N = decimal_value S
+
+    abbrev x : TransitionLine
+    x = line_of (rest r)
+
+    abbrev tested : Bool
+    tested = ltb x.from N && ltb x.to N
+
+    lines_on : lines r ≡ x ∷ lines t
+    lines_on = (one_line r some e).1
+
+    below_on : states_below N (lines s) ≡ (p.below && tested && states_below N (lines t))
+    unfolding states_below
+    below_on =
+        h.below_left ∙ ap (λ (xs : List TransitionLine). p.below && states_below N xs) lines_on
+        ∙ sym (and_assoc p.below tested (states_below N (lines t)))
+
+    gathering_added : few ≡ true → tested ≡ true → Gathering (lines s) (lines r) g → Within g → Gathering (lines s) (lines t) (added line g)
+    gathering_added f b o w =
+        let few_states = leb-true N 128 (sym q ∙ f) in
+        let a : labels_from g.labels (x ∷ lines t) ≡ labels_of (lines s) = ap (labels_from g.labels) (sym lines_on) ∙ o.labels_left w in
+        let k : merged_into (labels_of (lines s)) (transitions_held g.keys) (x ∷ lines t) ≡ transitions_of (lines s) =
+        ap (merged_into (labels_of (lines s)) (transitions_held g.keys)) (sym lines_on) ∙ o.keys_left w in
+        let l = labels_on r line is N few_states b g w (lines t) (labels_of (lines s)) a in
+        let m = transitions_on r line is N few_states b g w (lines t) (labels_of (lines s)) (transitions_of (lines s)) a k in
         record {
-          labels_least =
-              labels_least s qs r.labels left (labels_of (text_lines s))
-              (omega (arith, a.few_labels, i.few_labels)) l;
+          labels_least = omega (arith, labels_longer (added line g).labels (lines t), ap length l);
           keys_least =
-              transitions_least (labels_of (text_lines s)) js r.keys left (transitions_of (text_lines s))
-              (omega (arith, a.few_keys, i.few_keys)) k;
+              omega (
+                arith,
+                transitions_longer (labels_of (lines s)) (transitions_held (added line g).keys) (lines t),
+                transitions_length (added line g).keys,
+                ap length m,
+              );
           labels_left = λ _. l;
-          keys_left = λ _. k;
+          keys_left = λ _. m;
         }
 
-    abbrev right' : Bool
-    right' = right && tested
-
-    holding_next : few ≡ leb N 128 → 256 ≤ length qs → 2049 ≤ length js → AddedWithin (few && right') s x ps ss ks held qs zs js r → right' ≡ true → few ≡ true
-        → Holding s (text_lines s) left qs js r
-    holding_next q m n (added i a) rt ft =
-        let b = and_parts right tested rt in
-        holding_added (leb-true N 128 (sym q ∙ ft)) b.1 (g.holding b.0 ft) i a m n
-    holding_next q m n (kept never c d f e) rt ft =
-        let b = and_parts right tested rt in
-        let o = g.holding b.0 ft in
-        let over : Within r → ⊥ = λ i. never (all few right' ft rt) (subst Within c i) in
+    gathering_kept : (Within g → ⊥) → Gathering (lines s) (lines r) g → Gathering (lines s) (lines t) g
+    gathering_kept never o =
         record {
-          labels_least = subst (λ (n : Counts). n.labels ≤ length (labels_of (text_lines s))) (sym c) o.labels_least;
-          keys_least = subst (λ (n : Counts). n.keys ≤ length (transitions_of (text_lines s))) (sym c) o.keys_least;
-          labels_left = λ i. absurd (over i);
-          keys_left = λ i. absurd (over i);
+          labels_least = o.labels_least;
+          keys_least = o.keys_least;
+          labels_left = λ w. absurd (never w);
+          keys_left = λ w. absurd (never w);
         }
 
-    few_next : {wanted : Bool} → AddedWithin wanted s x ps ss ks held qs zs js r → (r.labels ≤ 256) × (r.keys ≤ 2049)
-    few_next (added i a) = (omega (arith, a.few_labels, i.few_labels), omega (arith, a.few_keys, i.few_keys))
-    few_next (kept never c d f e) =
-        (subst (λ (n : Counts). n.labels ≤ 256) (sym c) g.few_labels, subst (λ (n : Counts). n.keys ≤ 2049) (sym c) g.few_keys)
+    module _ (b : Bool) (d : b ≡ (p.below && (below_digits line.from.now S && below_digits line.to.now S))) where
+      below_is : b ≡ (p.below && tested)
+      below_is = d ∙ ap (λ (c : Bool). p.below && c) (states_tested r line is e S n)
 
-    rising_next : {wanted : Bool} → AddedWithin wanted s x ps ss ks held qs zs js r → Rising (take r.keys js)
-    rising_next (added i a) = subst Rising (sym a.keys_are) (insert_rising _ (take held.keys ks) g.rising)
-    rising_next (kept never c d f e) = subst Rising (sym (ap₂ (λ (n : Counts) (l : List ℕ). take n.keys l) c e)) g.rising
+      abbrev after : Pass
+      after = record { lines = p.lines + 1; below = b }
 
-    holds_next : {wanted : Bool} → AddedWithin wanted s x ps ss ks held qs zs js r → Holds s (take r.labels qs) (take r.labels zs)
-    holds_next (added i a) = a.holds
-    holds_next (kept never c d f e) =
-        subst (λ (n : Counts). Holds s (take n.labels qs) (take n.labels zs)) (sym c)
-        (subst (λ (l : List ℕ). Holds s (take held.labels l) (take held.labels zs)) (sym d)
-        (subst (λ (l : List ℕ). Holds s (take held.labels ps) (take held.labels l)) (sym f) g.holds))
+      passing_on : (g' : Gathered) → length g'.labels ≤ 256 → length g'.keys ≤ 2049
+          → (p.below ≡ true → tested ≡ true → few ≡ true → Gathering (lines s) (lines t) g') → Passing s N few t after g'
+      passing_on g' l k o =
+          let a = one_line r some e in
+          record {
+            counted = omega (arith, h.counted, a.2);
+            readable_left = h.readable_left ∙ a.0;
+            lines_left = omega (arith, h.lines_left, ap length a.1);
+            below_left = below_on ∙ ap (λ (c : Bool). c && states_below N (lines t)) (sym below_is);
+            few_labels = l;
+            few_keys = k;
+            gathering = λ c f. let z = and_parts p.below tested (sym below_is ∙ c) in o z.0 z.1 f;
+          }
 
-    pub passing_next : (start states digits : ℕ) → FirstRead s start states digits → few ≡ leb N 128 → (is : List ℕ) → RoomForAll qs zs is js → (b wanted : Bool)
-        → b ≡ (below_digits (between s x.from x.comma) (slice s states digits) && below_digits (between s x.to x.close) (slice s states digits))
-        → (b' : Bool) → b' ≡ (right && b) → wanted ≡ (few && b') → AddedWithin wanted s x ps ss ks held qs zs js r
-        → Passing s few qs zs is js x.next (lines + 1) b' r
-    passing_next start states digits f q is room b wanted e b' e' u a =
-        let t : b ≡ tested =
-        e ∙ states_tested s at x p w (slice s states digits) f.is_numeral
-        ∙ ap (λ (n : ℕ). ltb line.from n && ltb line.to n) f.stated_is in
-        let c : b' ≡ right' = e' ∙ ap (λ (d : Bool). right && d) t in
-        let v : wanted ≡ (few && right') = u ∙ ap (λ (d : Bool). few && d) c in
-        record {
-          counted = omega (arith, g.counted, p.from_order);
-          within = w;
-          readable_left = g.readable_left ∙ readable_next s at x.next lines g.counted h p.next_is;
-          lines_left_lem = omega (arith, g.lines_left_lem, ap length left_is);
-          below_left = below_next ∙ ap (λ (d : Bool). d && states_below N left) (sym c);
-          room = room;
-          few_labels = (few_next a).0;
-          few_keys = (few_next a).1;
-          rising = rising_next a;
-          holds = holds_next a;
-          holding = λ i j.
-              holding_next q room.places_room room.keys_room (subst (λ (d : Bool). AddedWithin d s x ps ss ks held qs zs js r) v a) (sym c ∙ i) j;
-        }
+      pub passing_added : b ≡ true → few ≡ true → within g ≡ true → Passing s N few t after (added line g)
+      passing_added c f w =
+          let i = is_within g w in
+          let z = and_parts p.below tested (sym below_is ∙ c) in
+          passing_on (added line g) (omega (arith, with_one line.label.now g.labels, i.few_labels))
+          (omega (arith, key_small line g, i.few_keys)) (λ a u v. gathering_added f z.1 (h.gathering a f) i)
+
+      pub passing_kept : (b ≡ true → few ≡ true → within g ≡ true → ⊥) → Passing s N few t after g
+      passing_kept never =
+          passing_on g h.few_labels h.few_keys
+          (λ a u f. gathering_kept (λ w. never (below_is ∙ all p.below tested a u) f (within_is g w)) (h.gathering a f))
 
 -- ---- where it ends
 
-module _ (s : List ℕ) (few : Bool) (ps ss hs ks : List ℕ) (at lines : ℕ) (right : Bool) (held : Counts)
-    (g : Passing s few ps ss hs ks at lines right held) where
-  pub passed_end : length s ≤ at → PassedOver s few ps ks (record { end = at; lines = lines; below = right; held = held })
-  unfolding labels_from merged_into states_below
-  passed_end h =
-      let e : at ≡ length s = omega (arith, g.within) in
-      let z : lines_left s lines at ≡ [] = lines_all s at (length s - lines) e in
-      record {
-        readable_is = g.readable_left ∙ readable_all s at (length s - lines) e ∙ sym (eq-eqb at (length s) e);
-        end_within_holds = omega arith;
-        lines_within = g.counted;
-        lines_are = λ _. omega (arith, g.lines_left_lem, ap length z);
-        below_is = λ _.
-            sym (g.below_left ∙ ap (λ (xs : List TransitionLine). right && states_below (text_first_line s).states xs) z ∙ and-true right);
-        gathered = λ _ i j.
-            let o = g.holding i j in
-            record {
-              labels_least = o.labels_least;
-              keys_least = o.keys_least;
-              labels_are = λ w. ap (labels_from (labels_held s (take held.labels ps))) (sym z) ∙ o.labels_left w;
-              keys_are = λ w.
-                  ap (merged_into (labels_of (text_lines s)) (transitions_held (take held.keys ks))) (sym z) ∙ o.keys_left w;
-            };
-      }
-
--- the first line cannot be read to its end
-pub not_begun : (s : List ℕ) (r : FirstPlaces) → FirstParts s r → length s < r.next → text_readable s ≡ false
-unfolding text_readable
-not_begun s r p h = ap (readable_from (length s)) (sym p.next_is) ∙ readable_past s r.next (length s) h
-
--- the line at a place cannot be read to its end
-pub passed_failed : (s : List ℕ) (few : Bool) (ps ss hs ks : List ℕ) (at lines : ℕ) (right : Bool) (held : Counts)
-    → Passing s few ps ss hs ks at lines right held → at < length s → (x : LinePlaces) → LineParts s at x → length s < x.next
-    → text_readable s ≡ false
-passed_failed s few ps ss hs ks at lines right held g h x p o =
-    g.readable_left ∙ readable_next s at x.next lines g.counted h p.next_is
-    ∙ readable_past s x.next (length s - (lines + 1)) o
-
-pub passed_out : (s : List ℕ) (few : Bool) (ps ks : List ℕ) (r : Pass) → text_readable s ≡ false → length s < r.end → r.end ≤ length s + 1
-    → r.lines ≤ r.end → PassedOver s few ps ks r
-passed_out s few ps ks r f h l c =
+pub passed : (s : List ℕ) (N : ℕ) (few : Bool) (r : List ℕ) (p : Pass) (g : Gathered) → Passing s N few r p g → length r ≡ 0 → Passed s N few p g
+unfolding labels_from merged_into states_below
+passed s N few r p g h z =
+    let e = no_line r z in
     record {
-      readable_is = f ∙ sym (ne_eqb r.end (length s) (λ e. omega arith));
-      end_within_holds = l;
-      lines_within = c;
-      lines_are = λ e. absurd (omega arith);
-      below_is = λ e. absurd (omega arith);
-      gathered = λ e _ _. absurd (omega arith);
+      readable_is = h.readable_left ∙ e.0;
+      lines_are = omega (arith, h.lines_left, ap length e.1);
+      lines_within = omega (arith, h.counted);
+      below_is =
+          sym (h.below_left ∙ ap (λ (xs : List TransitionLine). p.below && states_below N xs) e.1 ∙ and-true p.below);
+      gathered = λ b f.
+          let o = h.gathering b f in
+          record {
+            labels_least = o.labels_least;
+            keys_least = o.keys_least;
+            labels_are = λ w. ap (labels_from g.labels) (sym e.1) ∙ o.labels_left w;
+            keys_are = λ w. ap (merged_into (labels_of (lines s)) (transitions_held g.keys)) (sym e.1) ∙ o.keys_left w;
+          };
     }

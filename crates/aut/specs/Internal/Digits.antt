@@ -5,7 +5,8 @@ use Rattle.sheet.specs.Bytes.{pick}
 
 -- of equally many digits: at the first place where they differ the first ones have the lower
 unfoldable pub lower_digits : List ℕ → List ℕ → Bool
-lower_digits [] es = false
+lower_digits [] [] = false
+lower_digits [] (e ∷ es) = true
 lower_digits (d ∷ ds) [] = false
 lower_digits (d ∷ ds) (e ∷ es) = pick (ltb d e) true (pick (ltb e d) false (lower_digits ds es))
 

@@ -1,22 +1,8 @@
--- The labels that the code holds, as the places where they first stand. Contracts of private functions cite these; no promise of a public
--- call does.
-use Rattle.std.specs.Prelude.{ℕ, ◌+◌, ◌*◌, ◌%◌, ◌<◌, ◌≡◌, Bool, false, List, [], ◌∷◌, ltb, length, drop, get_or}
-use Rattle.sheet.specs.Bytes.{pick, byte}
-use Rattle.aut.specs.Texts.{is_label_byte}
-use Rattle.aut.specs.Scanning.{take_while}
+-- The labels that the code holds. Contracts of private functions cite these; no promise of a public call does.
+use Rattle.std.specs.Prelude.{ℕ, ◌+◌, ◌*◌, ◌%◌, ◌<◌, ◌≡◌, Bool, ◌&&◌, List, [], ◌∷◌, eqb, length, get_or, take, ◌≤◌}
+use Rattle.text.specs.Comparing.{same_text}
 use Rattle.aut.specs.Plans.{label_number}
-
--- the label that begins at a place
-abbrev pub label_from : List ℕ → ℕ → List ℕ
-label_from s at = take_while is_label_byte (drop at s)
-
-unfoldable pub labels_held : List ℕ → List ℕ → List (List ℕ)
-labels_held s [] = []
-labels_held s (p ∷ ps) = label_from s p ∷ labels_held s ps
-
--- a byte of a label stands at place i
-abbrev pub goes_on : List ℕ → ℕ → Bool
-goes_on s i = pick (ltb i (length s)) (is_label_byte (byte s i)) false
+use Rattle.aut.specs.declared.labels.Held.{Held}
 
 -- ---- checksums: labels that have different ones are different
 
@@ -31,15 +17,29 @@ sum_from sum (b ∷ l) = sum_from (mixed sum b) l
 abbrev pub sum_of : List ℕ → ℕ
 sum_of l = sum_from 0 l
 
-unfoldable pub sums_of : List (List ℕ) → List ℕ
-sums_of [] = []
-sums_of (k ∷ ks) = sum_of k ∷ sums_of ks
+-- ---- the labels
+
+-- the one held is this label, with this checksum
+abbrev pub is_held : List ℕ → ℕ → Held → Bool
+is_held l sum h = eqb h.sum sum && same_text l h.label.now
+
+-- the labels of those held
+unfoldable pub labels_in : List Held → List (List ℕ)
+labels_in [] = []
+labels_in (h ∷ hs) = h.label.now ∷ labels_in hs
+
+-- each with its checksum
+abbrev pub Summed : List Held → Type 0
+Summed [] = Unit {0}
+Summed (h ∷ hs) = (h.sum ≡ sum_of h.label.now) × Summed hs
 
 -- no label stands twice
 pub record Different (ks : List (List ℕ)) : Type 0 where
   pub at : (i : ℕ) → i < length ks → label_number (get_or ks i []) ks ≡ i
 
--- labels are held by their places and checksums
-pub record Holds (s places sums : List ℕ) : Type 0 where
-  pub sums_are : sums ≡ sums_of (labels_held s places)
-  pub different : Different (labels_held s places)
+-- the first count of an array of 256 hold the labels
+pub record Holding (held : List Held) (count : ℕ) : Type 0 where
+  pub array : length held ≡ 256
+  pub within : count ≤ 256
+  pub summed : Summed (take count held)
+  pub different : Different (labels_in (take count held))

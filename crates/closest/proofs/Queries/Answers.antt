@@ -1,22 +1,26 @@
 -- The answer of the call and the table that it leaves, by queries of the reachable states in turn.
-use Prim.Native.Nat.{ℕ, suc, ◌-◌, ◌<◌, ◌≤◌}
-use mathlib.Core.Path.{◌≡◌, refl, sym, ap, ap₂, subst, ◌∙◌}
+use Prim.Native.Nat.{ℕ, suc, ◌<◌}
+use mathlib.Core.Path.{◌≡◌, refl, sym, ap, ap₂, ◌∙◌}
 use mathlib.Core.Bool.{Bool, true, false, ◌&&◌}
 use mathlib.Core.List.{List, [], ◌∷◌, ◌++◌}
 use native.Mathlib.Omega.{arith}
 use lib.Dec.{ltb}
-use lib.ListN.{length, get_or, take}
-use lib.Seq.{get_or-take, length-take-le}
-use borrow.Author.Tests.{lt-ltb, le-ltb}
+use lib.ListN.{length, get_or}
+use borrow.Author.Tests.{lt-ltb}
+use Rattle.std.specs.Prelude.{Option, Some, Ok, Err, All}
+use Rattle.std.specs.Option.{option_map, option_and_then}
+use Rattle.std.proofs.lemmas.List.Elements.{All-nil, All-cons}
+use Rattle.std.proofs.lemmas.Option.{slice_get_past, slice_get-get_or}
 use Rattle.sheet.specs.Bytes.{pick}
 use Rattle.sheet.specs.Contents.{plan_body}
 use Rattle.sheet.specs.Plan.{state_count}
 use Rattle.sheet.specs.Reading.{sheet_check}
 use Rattle.sheet.specs.WellFormed.{WellFormedPlan}
-use Rattle.std.specs.Prelude.{Err, Ok}
 use Rattle.sheet.specs.Refusals.{Check}
 use Rattle.sheet.specs.declared.Refusal.{Refusal}
 use Rattle.sheet.proofs.Acceptance.Parts.{bodies_kept}
+use Rattle.closest.specs.declared.Failing.{Failing}
+use Rattle.graph.specs.Search.{most_states}
 use Rattle.graph.specs.LoopTest.{all_pass, settled, loop_free}
 use Rattle.graph.specs.Successors.{successors}
 use Rattle.graph.proofs.Looptest.Height.{successor_settled}
@@ -26,16 +30,14 @@ use Rattle.rows.proofs.Systems.Fuel.{each_map}
 use Rattle.judge.specs.Querying.{query_check, count_right, left_by}
 use Rattle.judge.specs.InTurn.{in_turn_check, holds_by, passed_before, answer_in_turn, in_turn_of, table_in_turn, QueriesInTurn}
 use Rattle.judge.proofs.Lists.SheetLists.{Takes, Fine, query_passes, count_passes}
-use Rattle.std.specs.Prelude.{Ok, Err}
 use Rattle.judge.specs.InTurn.{InTurn}
-use Rattle.judge.specs.declared.QueryError.TheVariants.{WrongCount as TurnWrongCount, Refused as TurnRefused}
+use Rattle.judge.specs.declared.JudgedInTurn.{JudgedInTurn}
+use Rattle.judge.specs.declared.QueryError.{QueryError}
+use Rattle.judge.specs.declared.QueryError.TheVariants.{WrongCount, Refused}
 use Rattle.closest.specs.Steps.{WayOf, stay, onward, Reached, reached_at, layers_from, reachable_states}
-use Rattle.closest.specs.Finding.{Found, everywhere, fails_at, states_of, first_failing, states_in_order, closest_found, searched, answer_found, answer_closest, closest_of, table_searched, reported_closest, Finds}
-use Rattle.closest.specs.Internal.Distances.{StepsMarked}
-use Rattle.closest.specs.Internal.Ordering.{Ordered}
-use Rattle.closest.specs.Internal.Answering.{AnswerRequires, Answered}
-use Rattle.closest.specs.declared.Closest.{Closest}
-use Rattle.closest.specs.declared.Closest.TheVariants.{Everywhere, Fails, WrongCount, Refused}
+use Rattle.closest.specs.Finding.{Found, everywhere, fails_at, states_of, first_failing, states_in_order, closest_found, searched, ClosestAnswer, first_of, answer_found, answer_closest, closest_of, table_searched, reported_closest, Finds}
+use Rattle.closest.specs.Internal.Distances.{Distances, StepsFound}
+use Rattle.closest.specs.Internal.Answering.{with_its_steps, failing_at}
 use Rattle.closest.proofs.Ways.Within.{way_below}
 use Rattle.closest.proofs.Ways.Order.{Led, order_each, Says, says}
 use Rattle.closest.proofs.Ways.Later.{layer_zero}
@@ -67,10 +69,10 @@ all_states q [] e = refl
 all_states q (x ∷ l) e = ap₂ ◌&&◌ e.0 (all_states q l e.1)
 
 -- the reader's refusal
-pub finds_unread : (s t : List ℕ) {x : Refusal} → sheet_check s ≡ Err x → Finds s t (Refused x) t
+pub finds_unread : (s t : List ℕ) {x : Refusal} → sheet_check s ≡ Err x → Finds s t (Err (Refused x)) t
 unfolding closest_of table_searched query_check
 finds_unread s t {x} e =
-    let same : Refused x ≡ closest_of s t = sym (rw e refl) in
+    let same : Err (Refused x) ≡ closest_of s t = sym (rw e refl) in
     (same, (ap reported_closest same, sym (rw e refl)))
 
 module _ (s : List ℕ) (accepted : sheet_check s ≡ Ok tt) where
@@ -131,91 +133,49 @@ module _ (s : List ℕ) (accepted : sheet_check s ≡ Ok tt) where
     unfolding table_in_turn table_searched
     same_table = ap (λ (c : Check). left_by s (searched s t) t c (count_right s t)) (same_check t)
 
-    module _ {order marks : List ℕ} {count : ℕ} (ordered : Ordered p order count) (marked : StepsMarked p marks) where
-      as_many : count ≡ length (states_in_order s)
-      as_many = sym (length-take-le count order (omega (arith, ordered.few, ordered.room))) ∙ ap length ordered.in_order
-
-      state_at : (k : ℕ) → k < count → get_or order k 0 ≡ get_or (states_in_order s) k 0
-      state_at k h = sym (get_or-take count order k 0 h) ∙ ap (λ (l : List ℕ). get_or l k 0) ordered.in_order
-
-      -- what is asked and what is answered where so many passed
-      record ByFound (f : Found) : Type 0 where
-        pub required : AnswerRequires order count marks passed
-        pub answered : (n : ℕ) (r : Closest) → Answered order count marks passed n r → r ≡ answer_found f n
-
-      by_found : (f : Found) → PassedBy (holds_by s t) (reachable_states p) f → Says p (holds_by s t) f → ByFound f
-      by_found everywhere h w =
-          let none : count ≤ passed = omega (arith, h, as_many) in
-          record {
-            required = record { few = ordered.few; state_below = λ l. absurd (omega arith); marked = λ l. absurd (omega arith) };
-            answered = λ n r e. e ∙ ap (λ (b : Bool). pick b (Fails (record { 0 = get_or order passed 0 }) (get_or marks (get_or order passed 0) 0 - 1) n) (Everywhere n)) (le-ltb passed count none);
-          }
+    module _ {d : Distances} (known : StepsFound p d) where
+      -- the state behind those that pass is the one where the rule fails first
+      by_found : (f : Found) → PassedBy (holds_by s t) (reachable_states p) f → Says p (holds_by s t) f
+          → failing_at (states_in_order s) d passed ≡ first_of f
+      by_found everywhere h w = ap (option_and_then (with_its_steps d)) (slice_get_past (states_in_order s) passed (omega arith))
       by_found (fails_at x) h w =
-          let low : passed < count = omega (arith, h.below, as_many) in
-          let state : get_or order passed 0 ≡ x.state = state_at passed low ∙ h.state-is in
-          let mark : get_or marks (get_or order passed 0) 0 ≡ suc x.steps = ap (λ (k : ℕ). get_or marks k 0) state ∙ marked.all x.state x.steps w.0 in
-          let less : get_or marks (get_or order passed 0) 0 - 1 ≡ x.steps = omega arith in
-          record {
-            required = record {
-              few = ordered.few;
-              state_below = λ l. omega (arith, state, way_below p well_formed w.0.way, well_formed.few_states);
-              marked = λ l. omega arith;
-            };
-            answered = λ n r e.
-                e ∙ ap (λ (b : Bool). pick b (Fails (record { 0 = get_or order passed 0 }) (get_or marks (get_or order passed 0) 0 - 1) n) (Everywhere n)) (lt-ltb passed count low)
-                ∙ (λ i. Fails (record { 0 = state i }) (less i) n);
-          }
+          ap (option_and_then (with_its_steps d)) (slice_get-get_or (states_in_order s) passed 0 h.below ∙ ap (λ (k : ℕ). Some k) h.state-is)
+          ∙ ap (option_map (λ n. record { state = record { 0 = x.state }; steps = n })) (known.all x.state x.steps w.0)
 
-      right : ByFound (closest_found s t)
+      pub right : failing_at (states_in_order s) d passed ≡ first_of (closest_found s t)
       right = by_found (closest_found s t) (passed_by (holds_by s t) (reachable_states p)) (says p well_formed (holds_by s t))
 
-      -- by the answer of queries in turn
-      module _ {q : InTurn} {u : List ℕ} (called : QueriesInTurn s (take count order) t q u) where
-        call : QueriesInTurn s (states_in_order s) t q u
-        call = subst (λ (l : List ℕ). QueriesInTurn s l t q u) ordered.in_order called
+    -- by the answer of queries in turn
+    module _ {q : InTurn} {u : List ℕ} (called : QueriesInTurn s (states_in_order s) t q u) where
+      finds : {r : ClosestAnswer} → r ≡ closest_of s t → Finds s t r u
+      finds e = (e, (ap reported_closest e, called.1.1 ∙ same_table))
 
-        finds : {r : Closest} → r ≡ closest_of s t → Finds s t r u
-        finds e = (e, (ap reported_closest e, call.1.1 ∙ same_table))
+      pub finds_refused : {x : QueryError} → q ≡ Err x → Finds s t (Err x) u
+      unfolding in_turn_of
+      finds_refused {x} e = go (in_turn_check s (states_in_order s) t) (count_right s t) refl refl (sym e ∙ called.0)
+        where
+          go : (c : Check) (b : Bool) → in_turn_check s (states_in_order s) t ≡ c → count_right s t ≡ b → Err x ≡ answer_in_turn passed (visits (searched s t)) c b → Finds s t (Err x) u
+          go (Ok tt) true f g h = let z : ◌≡◌ {A = ℕ} 0 1 = cc in absurd (omega arith)
+          go (Ok tt) false f g h = let same : x ≡ WrongCount = cc in finds (ap (λ (k : QueryError). Err k) same ∙ sym (answer_is ∙ ap₂ (answer_closest (closest_found s t) (visits (searched s t))) f g))
+          go (Err y) b f g h = let same : x ≡ Refused y = cc in finds (ap (λ (k : QueryError). Err k) same ∙ sym (answer_is ∙ ap₂ (answer_closest (closest_found s t) (visits (searched s t))) f g))
 
-        pub finds_refused : {x : Refusal} → q ≡ Err (TurnRefused x) → Finds s t (Refused x) u
-        unfolding in_turn_of
-        finds_refused {x} e = go (in_turn_check s (states_in_order s) t) (count_right s t) refl refl (sym e ∙ call.0)
-          where
-            go : (c : Check) (b : Bool) → in_turn_check s (states_in_order s) t ≡ c → count_right s t ≡ b → Err (TurnRefused x) ≡ answer_in_turn passed (visits (searched s t)) c b → Finds s t (Refused x) u
-            go (Ok tt) true f g h = let z : ◌≡◌ {A = ℕ} 0 1 = cc in absurd (omega arith)
-            go (Ok tt) false f g h = let z : ◌≡◌ {A = ℕ} 0 1 = cc in absurd (omega arith)
-            go (Err y) b f g h = let same : x ≡ y = cc in finds (ap Refused same ∙ sym (answer_is ∙ ap₂ (answer_closest (closest_found s t) (visits (searched s t))) f g))
+      pub finds_answer : {d : Distances} → StepsFound p d → {j : JudgedInTurn} → q ≡ Ok j
+          → Finds s t (Ok (record { first = failing_at (states_in_order s) d j.passed; visits = j.visits })) u
+      unfolding in_turn_of
+      finds_answer {d} known {j} e = go (in_turn_check s (states_in_order s) t) (count_right s t) refl refl (sym e ∙ called.0)
+        where
+          go : (c : Check) (b : Bool) → in_turn_check s (states_in_order s) t ≡ c → count_right s t ≡ b → Ok j ≡ answer_in_turn passed (visits (searched s t)) c b
+              → Finds s t (Ok (record { first = failing_at (states_in_order s) d j.passed; visits = j.visits })) u
+          go (Ok tt) true f g h =
+              let same : j ≡ record { passed = passed; visits = visits (searched s t) } = cc in
+              rw same (finds (ap (λ (o : Option Failing). Ok (record { first = o; visits = visits (searched s t) })) (right known) ∙ sym (answer_is ∙ ap₂ (answer_closest (closest_found s t) (visits (searched s t))) f g)))
+          go (Ok tt) false f g h = let z : ◌≡◌ {A = ℕ} 0 1 = cc in absurd (omega arith)
+          go (Err y) b f g h = let z : ◌≡◌ {A = ℕ} 0 1 = cc in absurd (omega arith)
 
-        pub finds_wrong_count : q ≡ (Err TurnWrongCount) → Finds s t WrongCount u
-        unfolding in_turn_of
-        finds_wrong_count e = go (in_turn_check s (states_in_order s) t) (count_right s t) refl refl (sym e ∙ call.0)
-          where
-            go : (c : Check) (b : Bool) → in_turn_check s (states_in_order s) t ≡ c → count_right s t ≡ b → (Err TurnWrongCount) ≡ answer_in_turn passed (visits (searched s t)) c b → Finds s t WrongCount u
-            go (Ok tt) true f g h = let z : ◌≡◌ {A = ℕ} 0 1 = cc in absurd (omega arith)
-            go (Ok tt) false f g h = finds (sym (answer_is ∙ ap₂ (answer_closest (closest_found s t) (visits (searched s t))) f g))
-            go (Err y) b f g h = let z : ◌≡◌ {A = ℕ} 0 1 = cc in absurd (omega arith)
-
-        -- so many passed, and so many cells were filled
-        record Told (k n : ℕ) : Type 0 where
-          pub passed_is : k ≡ passed
-          pub answer : {r : Closest} → r ≡ answer_found (closest_found s t) n → Finds s t r u
-
-        told : {k n : ℕ} → q ≡ Ok (record { passed = k; visits = n }) → Told k n
-        unfolding in_turn_of
-        told {k} {n} e = go (in_turn_check s (states_in_order s) t) (count_right s t) refl refl (sym e ∙ call.0)
-          where
-            go : (c : Check) (b : Bool) → in_turn_check s (states_in_order s) t ≡ c → count_right s t ≡ b → Ok (record { passed = k; visits = n }) ≡ answer_in_turn passed (visits (searched s t)) c b → Told k n
-            go (Ok tt) true f g h =
-                let same : n ≡ visits (searched s t) = cc in
-                record {
-                  passed_is = cc;
-                  answer = λ e. finds (e ∙ ap (answer_found (closest_found s t)) same ∙ sym (answer_is ∙ ap₂ (answer_closest (closest_found s t) (visits (searched s t))) f g));
-                }
-            go (Ok tt) false f g h = let z : ◌≡◌ {A = ℕ} 0 1 = cc in absurd (omega arith)
-            go (Err y) b f g h = let z : ◌≡◌ {A = ℕ} 0 1 = cc in absurd (omega arith)
-
-        pub answer_required : {k n : ℕ} → q ≡ Ok (record { passed = k; visits = n }) → AnswerRequires order count marks k
-        answer_required e = subst (AnswerRequires order count marks) (sym (told e).passed_is) right.required
-
-        pub finds_answer : {k n : ℕ} {r : Closest} → q ≡ Ok (record { passed = k; visits = n }) → Answered order count marks k n r → Finds s t r u
-        finds_answer {k} {n} {r} e a = (told e).answer (right.answered n r (subst (λ (j : ℕ). Answered order count marks j n r) (told e).passed_is a))
+  -- the reachable states are among those that a plan can have
+  pub few_in_order : All (λ state. state < most_states) (states_in_order s)
+  few_in_order = go (reachable_states p) each_led
+    where
+      go : (l : List Reached) → Each (Led p) l → All (λ state. state < most_states) (states_of l)
+      go [] e = All-nil _
+      go (x ∷ l) e = All-cons (λ state. state < most_states) x.state (states_of l) (omega (arith, way_below p well_formed e.0, well_formed.few_states)) (go l e.1)

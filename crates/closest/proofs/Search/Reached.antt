@@ -1,33 +1,30 @@
 -- What the search begins with, and what it leaves.
 use Prim.Native.Nat.{ℕ, zero, suc, ◌<◌, ◌≤◌}
 use mathlib.Core.Path.{◌≡◌, refl, sym, ap, subst, ◌∙◌}
-use mathlib.Core.List.{List, Memᴰ}
+use mathlib.Core.List.{List, [], ◌∷◌, Memᴰ}
 use mathlib.Core.Logic.{◌≢◌}
 use native.Mathlib.Omega.{arith}
 use native.Mathlib.Decide.{ℕ_discrete}
-use lib.ListN.{get_or, set, replicate}
+use lib.ListN.{length, get_or, set, replicate, length-map}
 use lib.Seq.{get_or-set_other}
+use Rattle.std.specs.Prelude.{None}
 use Rattle.graph.specs.Search.{most_states}
 use Rattle.graph.specs.Successors.{successors}
 use Rattle.graph.specs.Internal.Searching.{unseen}
 use Rattle.graph.proofs.Search.Colouring.{colourless}
 use Rattle.closest.specs.Steps.{WayOf, stay, onward, Steps}
-use Rattle.closest.specs.Internal.Distances.{Queued, StepsMarked}
-use Rattle.closest.proofs.Search.Marks.{queued_low}
+use Rattle.closest.specs.Internal.Distances.{Distances, mark_of, marks_of, Queued, StepsFound}
+use Rattle.closest.proofs.Search.Marks.{marked_at, marked_one}
 use Rattle.closest.proofs.Search.Marking.{MarkedBy}
 
 -- state 0 is reached and queued
 abbrev start_marks : List ℕ
 start_marks = set (replicate most_states 0) 0 1
 
-abbrev start_queue : List ℕ
-start_queue = replicate most_states 0
-
-first_queued : (p : List ℕ) → Queued p start_marks start_queue 1 0
+pub queued_starts : (p : List ℕ) → Queued p start_marks (0 ∷ []) 0
 unfolding unseen
-first_queued p = record {
+queued_starts p = record {
   room = refl;
-  room_queued = refl;
   each_once = refl;
   start = refl;
   queued = λ j l. let e : j ≡ 0 = omega arith in rw e (0, refl, omega arith, stay);
@@ -41,14 +38,11 @@ first_queued p = record {
     start_only t n =
         elim (ℕ_discrete t 0) [
           | yes q ↦ q
-          | no q ↦ absurd (n (get_or-set_other start_queue 0 t 1 0 q ∙ colourless most_states t))
+          | no q ↦ absurd (n (get_or-set_other (replicate most_states 0) 0 t 1 0 q ∙ colourless most_states t))
         ]
 
-pub queued_starts : (p : List ℕ) {marks : List ℕ} → marks ≡ replicate most_states 0 → Queued p (set marks 0 1) start_queue 1 0
-queued_starts p e = rw e (first_queued p)
-
 -- all that are queued are done
-module _ {p marks queue : List ℕ} {known done : ℕ} (w : Queued p marks queue known done) (h : known ≤ done) where
+module _ {p marks queue : List ℕ} {done : ℕ} (w : Queued p marks queue done) (h : length queue ≤ done) where
   -- a way of n transitions leads to a state whose mark is at most n + 1
   way_marked : {n t : ℕ} → WayOf p n t → MarkedBy marks (suc n) t
   way_marked stay = ((λ z. omega (arith, w.start)), omega (arith, w.start))
@@ -61,7 +55,7 @@ module _ {p marks queue : List ℕ} {known done : ℕ} (w : Queued p marks queue
   marked_steps : (t n : ℕ) → get_or marks t 0 ≡ suc n → Steps p t n
   marked_steps t n e = record { way = to (w.found t (λ z. omega arith)); fewest = λ m v. omega (arith, (way_marked v).1) }
     where
-      to : (j : ℕ) × (j < known) × (get_or queue j 0 ≡ t) → WayOf p n t
+      to : (j : ℕ) × (j < length queue) × (get_or queue j 0 ≡ t) → WayOf p n t
       to f =
           let q = w.queued f.0 f.1 in
           let k : q.0 ≡ n = omega (arith, q.1, ap (λ (u : ℕ). get_or marks u 0) f.2) in
@@ -71,13 +65,12 @@ module _ {p marks queue : List ℕ} {known done : ℕ} (w : Queued p marks queue
   exactly t n v zero e = absurd ((way_marked v.way).0 e)
   exactly t n v (suc k) e = omega (arith, (way_marked v.way).1, v.fewest k (marked_steps t k e).way)
 
-  pub queued_ends : StepsMarked p marks
-  queued_ends = record {
-    room = w.room;
-    low = λ t. elim (ℕ_discrete (get_or marks t 0) 0) [
-      | yes z ↦ omega arith
-      | no n ↦ let f = w.found t n in omega (arith, queued_low w f.0 f.1, ap (λ (u : ℕ). get_or marks u 0) f.2)
-    ];
-    right = marked_steps;
-    all = λ t n v. exactly t n v (get_or marks t 0) refl;
-  }
+  pub queued_marked : (t n : ℕ) → Steps p t n → get_or marks t 0 ≡ suc n
+  queued_marked t n v = exactly t n v (get_or marks t 0) refl
+
+pub queued_ends : {p queue : List ℕ} {d : Distances} {done : ℕ} → Queued p (marks_of d) queue done → length queue ≤ done → StepsFound p d
+queued_ends {d = d} w h = record {
+  room = sym (length-map d mark_of) ∙ w.room;
+  right = λ t n e. marked_steps w h t n (marked_at d t ∙ ap mark_of e);
+  all = λ t n v. marked_one (get_or d t None) n (sym (marked_at d t) ∙ queued_marked w h t n v);
+}

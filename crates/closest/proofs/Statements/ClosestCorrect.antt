@@ -32,9 +32,8 @@ use Rattle.judge.specs.Querying.{Queried}
 use Rattle.judge.proofs.Lists.SheetLists.{Takes, Fine, judged_report}
 use Rattle.judge.proofs.Statements.AuditCorrect.{audits_correct}
 use Rattle.judge.proofs.Statements.CallNumbers.{call_numbers}
-use Rattle.closest.specs.Finding.{Found, everywhere, fails_at, closest_found, searched, answer_closest, closest_of, table_searched, ClosestReport, reported_closest, refused_report, Finds}
+use Rattle.closest.specs.Finding.{ClosestAnswer, Found, everywhere, fails_at, closest_found, searched, answer_closest, closest_of, table_searched, ClosestReport, reported_closest, refused_report, Finds}
 use Rattle.closest.specs.ClosestCorrect.{ReachableState, RightlyFound, ClosestCorrect, AsQueries, ByTable1, SearchesCorrect}
-use Rattle.closest.specs.declared.Closest.{Closest}
 use Rattle.closest.proofs.Statements.SearchCorrect.{report_of, reached_taken, rightly_found, correct, as_queries}
 
 -- the query of state 0, as defined
@@ -44,7 +43,7 @@ defined s state t = (refl, (refl, refl))
 -- ---- by the check and the count
 
 module _ (s t : List ℕ) where
-  abbrev answer : Check → Bool → Closest
+  abbrev answer : Check → Bool → ClosestAnswer
   answer c b = answer_closest (closest_found s t) (visits (searched s t)) c b
 
   answered_by : (c : Check) (b : Bool) → query_check s 0 t ≡ c → count_right s t ≡ b → closest_of s t ≡ answer c b
@@ -81,7 +80,7 @@ module _ (s t : List ℕ) where
     where
       go : (c : Check) (b : Bool) → query_check s 0 t ≡ c → count_right s t ≡ b
           → (reported_closest (closest_of s t) ≡ refused_report (reported_closest (closest_of s t)).number (reported_closest (closest_of s t)).place) × (table_searched s t ≡ t)
-      go (Ok tt) true e f = absurd (n (ap (λ (r : Closest). (reported_closest r).number) (answered_by (Ok tt) true e f) ∙ (number_0 (closest_found s t) (visits (searched s t))).0))
+      go (Ok tt) true e f = absurd (n (ap (λ (r : ClosestAnswer). (reported_closest r).number) (answered_by (Ok tt) true e f) ∙ (number_0 (closest_found s t) (visits (searched s t))).0))
       go (Ok tt) false e f = (rw (answered_by (Ok tt) false e f) refl, left_by_lem (Ok tt) false e f)
       go (Err x) b e f = (rw (answered_by (Err x) b e f) refl, left_by_lem (Err x) b e f)
 
@@ -89,7 +88,7 @@ module _ (s t : List ℕ) where
   not_turned_down n = go (query_check s 0 t) (count_right s t) refl refl
     where
       told : (c : Check) (b : Bool) → query_check s 0 t ≡ c → count_right s t ≡ b → (reported_closest (answer c b)).number ≡ 0
-      told c b e f = ap (λ (r : Closest). (reported_closest r).number) (sym (answered_by c b e f)) ∙ n
+      told c b e f = ap (λ (r : ClosestAnswer). (reported_closest r).number) (sym (answered_by c b e f)) ∙ n
 
       go : (c : Check) (b : Bool) → query_check s 0 t ≡ c → count_right s t ≡ b → reported_closest (closest_of s t) ≡ report_of (closest_found s t) (visits (searched s t))
       go (Ok tt) true e f = ap reported_closest (answered_by (Ok tt) true e f)
@@ -152,7 +151,7 @@ module _ (s t : List ℕ) where
 
 -- ---- of every call
 
-module _ (s t : List ℕ) (r : Closest) (u : List ℕ) (f : Finds s t r u) where
+module _ (s t : List ℕ) (r : ClosestAnswer) (u : List ℕ) (f : Finds s t r u) where
   -- what holds of what is defined
   of_call : (P : ClosestReport → List ℕ → Type 0) → P (reported_closest (closest_of s t)) (table_searched s t) → P (reported_closest r) u
   of_call P h = subst₂ P (sym f.1.0) (sym f.1.1) h

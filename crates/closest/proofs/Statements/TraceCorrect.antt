@@ -13,7 +13,7 @@ use Rattle.sheet.specs.Reading.{sheet_check}
 use Rattle.sheet.specs.RefusalOrder.{GivenInOrder}
 use Rattle.sheet.specs.Refusals.{number_of, place_of}
 use Rattle.sheet.specs.WellFormed.{WellFormedPlan, WellFormedSheet}
-use Rattle.std.specs.Prelude.{Err, Ok}
+use Rattle.std.specs.Prelude.{None, Some, Ok, Err}
 use Rattle.sheet.specs.Refusals.{Check}
 use Rattle.sheet.specs.declared.Refusal.{Refusal}
 use Rattle.sheet.specs.declared.Refusal.TheVariants.{NoSuchState, OutputShort}
@@ -23,10 +23,8 @@ use Rattle.sheet.proofs.Acceptance.Sheet.{accepted_iff, not_refused}
 use Rattle.graph.specs.Loops.{Reachable}
 use Rattle.graph.specs.Successors.{successors}
 use Rattle.closest.specs.Steps.{Steps}
-use Rattle.closest.specs.Tracing.{step_count, is_reached, traced_of, output_traced, Traces}
+use Rattle.closest.specs.Tracing.{Traced, step_count, is_reached, traced_of, output_traced, Traces}
 use Rattle.closest.specs.TraceCorrect.{Traceable, TraceAnswered, TraceCorrect}
-use Rattle.closest.specs.declared.Traced.{Traced}
-use Rattle.closest.specs.declared.Traced.TheVariants.{Way, Unreachable, Refused}
 use Rattle.closest.proofs.Ways.Within.{at_steps_lem, reachable_steps}
 use Rattle.closest.proofs.Ways.Later.{reachable_exactly}
 use Rattle.closest.proofs.Traces.Backwards.{written}
@@ -43,7 +41,7 @@ module _ (s : List ℕ) (state : ℕ) (out : List ℕ) where
   abbrev plan : List ℕ
   plan = plan_body s
 
-  answered_unread : (x : Refusal) → sheet_check s ≡ Err x → TraceAnswered s state out (Refused x) out
+  answered_unread : (x : Refusal) → sheet_check s ≡ Err x → TraceAnswered s state out (Err x) out
   answered_unread x e = record {
     in_order = given_in_order s (number_of x) (place_of x) same (λ f. absurd (not_refused s e ((accepted_iff s).0 f)));
     eleven = (λ h. absurd (omega (arith, low_refusal s e)), λ g. absurd (not_refused s e g.0));
@@ -65,7 +63,7 @@ module _ (s : List ℕ) (state : ℕ) (out : List ℕ) where
     none_below : (n : ℕ) → (n ≡ 0) ⊎ (10 < n) → GivenInOrder s n 0
     none_below n h = given_in_order s n 0 (λ y f. absurd (not_refused s f k)) (λ e. h)
 
-    answered_no_state : state_count plan ≤ state → TraceAnswered s state out (Refused NoSuchState) out
+    answered_no_state : state_count plan ≤ state → TraceAnswered s state out (Err NoSuchState) out
     answered_no_state l = record {
       in_order = none_below 11 (inr (omega arith));
       eleven = (λ h. (k, l), λ g. refl);
@@ -86,7 +84,7 @@ module _ (s : List ℕ) (state : ℕ) (out : List ℕ) where
       traceable : Traceable s state
       traceable = record { accepted = k; state_below = below }
 
-      answered_unreached : ((n : ℕ) → Steps plan state n → ⊥) → TraceAnswered s state out Unreachable out
+      answered_unreached : ((n : ℕ) → Steps plan state n → ⊥) → TraceAnswered s state out (Ok None) out
       answered_unreached none = record {
         in_order = none_below 0 (inl refl);
         eleven = (λ h. absurd (omega arith), λ g. absurd (omega (arith, g.1)));
@@ -107,7 +105,7 @@ module _ (s : List ℕ) (state : ℕ) (out : List ℕ) where
         one_count : (m : ℕ) → Steps plan state m → m ≡ n
         one_count m d = omega (arith, c.fewest m d.way, d.fewest n c.way)
 
-        answered_short : length out < 3 * n → TraceAnswered s state out (Refused OutputShort) out
+        answered_short : length out < 3 * n → TraceAnswered s state out (Err OutputShort) out
         answered_short l = record {
           in_order = none_below 22 (inr (omega arith));
           eleven = (λ h. absurd (omega arith), λ g. absurd (omega (arith, g.1)));
@@ -121,7 +119,7 @@ module _ (s : List ℕ) (state : ℕ) (out : List ℕ) where
           refused = λ h. refl;
         }
 
-        answered_way : 3 * n ≤ length out → TraceAnswered s state out (Way n) (written plan n state out)
+        answered_way : 3 * n ≤ length out → TraceAnswered s state out (Ok (Some n)) (written plan n state out)
         answered_way l = record {
           in_order = none_below 0 (inl refl);
           eleven = (λ h. absurd (omega arith), λ g. absurd (omega (arith, g.1)));

@@ -3,8 +3,9 @@ use Prim.Native.Nat.{ℕ, suc, ◌+◌, ◌-◌, ◌*◌, ◌<◌, ◌≤◌}
 use mathlib.Core.Path.{◌≡◌, refl, sym, ap, subst, ◌∙◌}
 use mathlib.Core.List.{List, [], ◌∷◌, ◌++◌, append_assoc}
 use native.Mathlib.Omega.{arith}
-use lib.ListN.{length, get_or, set, drop, take, length-set}
-use lib.Seq.{drop_at, set_split, length-take-le}
+use borrow.Rule.Slice.PartMut.{put_mid, Post-is, same_len_mid}
+use lib.ListN.{length, get_or, drop, take, length-drop}
+use lib.Seq.{drop_at, length-take-le}
 use Rattle.sheet.specs.Plan.{transition_count, origin, label, target}
 use Rattle.sheet.specs.TransitionSystem.{LabelledTransition, transition_of}
 use Rattle.closest.specs.Steps.{Steps}
@@ -20,29 +21,17 @@ unfolding way_bytes
 bytes_append [] x = refl
 bytes_append (y ∷ l) x = ap {B = List ℕ} (λ r. y.origin ∷ y.action ∷ y.target ∷ r) (bytes_append l x)
 
-drop_stored : (l : List ℕ) (i v : ℕ) → i < length l → drop i (set l i v) ≡ v ∷ drop (suc i) l
-drop_stored l i v h = ap (drop i) (set_split l i v h) ∙ drop_at (take i l) (v ∷ drop (suc i) l) i (length-take-le i l (omega arith))
+-- three bytes put in the place of those at i
+abbrev pub with_three : List ℕ → ℕ → List ℕ → List ℕ
+with_three out i l = put_mid i (i + 3 - i) out l
 
--- three bytes stored from the last to the first
-abbrev pub store_three : List ℕ → ℕ → ℕ → ℕ → ℕ → List ℕ
-store_three out i a b c = set (set (set out (i + 2) c) (i + 1) b) i a
+three_length : (out : List ℕ) (i : ℕ) (x : LabelledTransition) → i + 3 ≤ length out → length (with_three out i (three_bytes x)) ≡ length out
+three_length out i x h =
+    let k : i + 3 - i ≡ 3 = omega arith in
+    same_len_mid i (i + 3 - i) out (three_bytes x) (sym k ∙ sym (length-take-le (i + 3 - i) (drop i out) (omega (arith, length-drop i out))))
 
-three_length : (out : List ℕ) (i a b c : ℕ) → length (store_three out i a b c) ≡ length out
-three_length out i a b c = simp length-set
-
-drop_three : (out : List ℕ) (i a b c : ℕ) → i + 3 ≤ length out → drop i (store_three out i a b c) ≡ a ∷ b ∷ c ∷ drop (i + 3) out
-drop_three out i a b c h =
-    let second = set out (i + 2) c in
-    let k = length-set out (i + 2) c in
-    let l = length-set second (i + 1) b in
-    let x : suc i ≡ i + 1 = omega arith in
-    let y : suc (i + 1) ≡ i + 2 = omega arith in
-    let z : suc (i + 2) ≡ i + 3 = omega arith in
-    drop_stored (set second (i + 1) b) i a (omega arith) ∙
-    ap {B = List ℕ} (λ r. a ∷ r)
-    (ap (λ (j : ℕ). drop j (set second (i + 1) b)) x ∙ (drop_stored second (i + 1) b (omega arith) ∙
-    ap {B = List ℕ} (λ r. b ∷ r)
-    (ap (λ (j : ℕ). drop j second) y ∙ (drop_stored out (i + 2) c (omega arith) ∙ ap (λ (j : ℕ). c ∷ drop j out) z))))
+drop_three : (out : List ℕ) (i : ℕ) (l : List ℕ) → i + 3 ≤ length out → drop i (with_three out i l) ≡ l ++ drop (i + 3) out
+drop_three out i l h = drop_at (take i out) _ i (length-take-le i out (omega arith)) ∙ ap (λ (r : List ℕ). l ++ r) (Post-is i (i + 3) out (omega arith))
 
 -- the way to the state, and the bytes behind it
 abbrev pub written : List ℕ → ℕ → ℕ → List ℕ → List ℕ
@@ -86,16 +75,16 @@ module _ {p : List ℕ} {state n : ℕ} {before out : List ℕ} {at left : ℕ} 
         (ap (λ (l : List ℕ). l ++ drop (3 * (left - 1) + 3) out) (bytes_append (way_to p (left - 1) (origin p last)) (transition_of p last)) ∙
         append_assoc (way_bytes (way_to p (left - 1) (origin p last))) (three_bytes (transition_of p last)) (drop (3 * (left - 1) + 3) out)))
 
-    pub filling_on : (i : ℕ) → i ≡ last → (u : ℕ) → u ≡ origin p i
-        → Filling p state n before (store_three out (3 * (left - 1)) (origin p i) (label p i) (target p i)) u (left - 1)
-    filling_on i e u f = rw (f, e) (record {
+    pub filling_on : (a b z : ℕ) → a ≡ origin p last → b ≡ label p last → z ≡ target p last → {part : List ℕ} → part ≡ a ∷ b ∷ z ∷ []
+        → Filling p state n before (with_three out (3 * (left - 1)) part) a (left - 1)
+    filling_on a b z e f g h = rw (h, e, f, g) (record {
       counted = (last_leads p at (left - 1) one_less).0;
-      room = three_length out (3 * (left - 1)) (origin p last) (label p last) (target p last) ∙ w.room;
+      room = three_length out (3 * (left - 1)) (transition_of p last) filling_room ∙ w.room;
       inside = omega (arith, w.inside);
       same =
           w.same ∙ (shorter ∙
           ap (λ (l : List ℕ). way_bytes (way_to p (left - 1) (origin p last)) ++ l)
-          (sym (drop_three out (3 * (left - 1)) (origin p last) (label p last) (target p last) filling_room)));
+          (sym (drop_three out (3 * (left - 1)) (three_bytes (transition_of p last)) filling_room)));
     })
 
   pub filling_ends : left ≡ 0 → out ≡ written p n state before

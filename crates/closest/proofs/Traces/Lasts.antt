@@ -1,15 +1,19 @@
 -- The last transition of the way to a state, and what a pass over the transitions from the last to the first stores of it.
-use Prim.Native.Nat.{ℕ, suc, ◌+◌, ◌-◌, ◌<◌, ◌≤◌}
-use mathlib.Core.Path.{◌≡◌, sym, ap, subst, ◌∙◌}
-use mathlib.Core.Bool.{true, true≢false}
+use Prim.Native.Nat.{ℕ, suc, ◌+◌, ◌<◌, ◌≤◌}
+use mathlib.Core.Path.{◌≡◌, refl, sym, ap, subst, ◌∙◌}
+use mathlib.Core.Bool.{true, false, true≢false}
 use mathlib.Core.List.{List}
 use mathlib.Core.Logic.{◌≢◌}
 use native.Mathlib.Omega.{arith}
 use native.Mathlib.Decide.{ℕ_discrete, dec_lt}
 use lib.Dec.{eqb}
-use lib.ListN.{length, get_or, set, length-set}
+use native.Mathlib.Numerals.{add-one}
+use lib.ListN.{length, get_or, set, replicate, length-set, length-replicate}
 use lib.Seq.{get_or-set_same, get_or-set_other}
 use borrow.Author.Tests.{eqb-true, eq-eqb}
+use Rattle.std.specs.Prelude.{Option, None, Some}
+use Rattle.std.specs.Option.{option_eq}
+use Rattle.std.proofs.lemmas.Option.{same_Some}
 use Rattle.sheet.specs.Plan.{transition_count, origin, target}
 use Rattle.sheet.specs.TransitionSystem.{LabelledTransition, plan_of}
 use Rattle.sheet.proofs.TransitionSystem.{member_at}
@@ -19,8 +23,9 @@ use Rattle.graph.specs.Search.{most_states}
 use Rattle.graph.proofs.Looptest.Successors.{target_of_lem}
 use Rattle.closest.specs.Steps.{WayOf, onward, Steps, at_steps}
 use Rattle.closest.specs.Tracing.{arrives, last_transition}
-use Rattle.closest.specs.Internal.Distances.{StepsMarked}
+use Rattle.closest.specs.Internal.Distances.{Distances, StepsFound}
 use Rattle.closest.specs.Internal.Tracing.{LastsRight}
+use Rattle.closest.proofs.Search.LayerLists.{some_equal}
 use Rattle.closest.proofs.Ways.Within.{at_steps_lem, steps_computed}
 
 module _ (p : List ℕ) where
@@ -80,57 +85,80 @@ pub record Storing (p lasts : List ℕ) (i : ℕ) : Type 0 where
   pub within : i ≤ transition_count p
   pub stored : (t n k : ℕ) → Steps p t (suc n) → i ≤ k → k < transition_count p → arrives p n t k ≡ true → Stored p lasts t n k
 
-pub storing_starts : {p lasts : List ℕ} {i : ℕ} → length lasts ≡ most_states → i ≡ transition_count p → Storing p lasts i
-storing_starts e f = record { room = e; within = omega arith; stored = λ t n k c l b h. absurd (omega arith) }
+pub storing_starts : (p : List ℕ) → Storing p (replicate most_states 0) (transition_count p)
+storing_starts p = record { room = length-replicate {A = ℕ} most_states 0; within = omega arith; stored = λ t n k c l b h. absurd (omega arith) }
 
-module _ {p lasts : List ℕ} {i : ℕ} (w : Storing p lasts i) where
-  module _ (h : 0 < i) {marks : List ℕ} (m : StepsMarked p marks) (from to : ℕ) (f : from ≡ origin p (i - 1)) (g : to ≡ target p (i - 1)) where
-    -- the marks differ by one exactly where the transition arrives
-    marks_next : (n : ℕ) → Steps p to (suc n) → get_or marks to 0 ≡ get_or marks from 0 + 1 → Steps p (origin p (i - 1)) n
-    marks_next n c e = subst (λ (u : ℕ). Steps p u n) f (m.right from n (omega (arith, m.all to (suc n) c)))
+-- a transition leads to a state of one step more
+abbrev pub StepsRise : Distances → List ℕ → ℕ → Type 0
+StepsRise d p i = (n : ℕ) × (get_or d (origin p i) None ≡ Some n) × (get_or d (target p i) None ≡ Some (n + 1))
 
-    next_marks : (t n : ℕ) → Steps p t (suc n) → arrives p n t (i - 1) ≡ true → (t ≡ to) × (get_or marks to 0 ≡ get_or marks from 0 + 1)
-    next_marks t n c a =
-        let b = arrives_from p n t (i - 1) a in
-        let q : t ≡ to = sym b.1 ∙ sym g in
-        let x : get_or marks to 0 ≡ suc (suc n) = m.all to (suc n) (subst (λ (u : ℕ). Steps p u (suc n)) q c) in
-        let y : get_or marks from 0 ≡ suc n = m.all from n (subst (λ (u : ℕ). Steps p u n) (sym f) b.0) in
-        (q, omega arith)
+-- exactly those do that arrive
+module _ {p : List ℕ} {d : Distances} (m : StepsFound p d) (i : ℕ) where
+  steps_next : (n : ℕ) → Steps p (target p i) (suc n) → StepsRise d p i → Steps p (origin p i) n
+  steps_next n c (k, e, f) =
+      m.right (origin p i) n (e ∙ ap (λ (j : ℕ). Some j) (let q = same_Some (k + 1) (suc n) (sym f ∙ m.all (target p i) (suc n) c) in omega arith))
 
-    -- from i on, or i - 1 itself
-    pub storing_past : (get_or marks to 0 ≡ get_or marks from 0 + 1 → ⊥) → Storing p lasts (i - 1)
+  next_steps : (t n : ℕ) → Steps p t (suc n) → arrives p n t i ≡ true → (t ≡ target p i) × StepsRise d p i
+  next_steps t n c a =
+      let b = arrives_from p n t i a in
+      let to = subst (λ (u : ℕ). Steps p u (n + 1)) (sym b.1) (subst (Steps p t) (sym (add-one n)) c) in
+      (sym b.1, (n, m.all (origin p i) n b.0, m.all (target p i) (n + 1) to))
+
+module _ {p lasts : List ℕ} {j : ℕ} (w : Storing p lasts j) (i : ℕ) (b : j ≡ suc i) where
+  module _ {d : Distances} (m : StepsFound p d) where
+    -- from i + 1 on, or i itself
+    storing_past : (StepsRise d p i → ⊥) → Storing p lasts i
     storing_past none = record {
       room = w.room;
       within = omega (arith, w.within);
-      stored = λ t n k c l b a. elim (dec_lt k i) [
-        | yes q ↦ let e : k ≡ i - 1 = omega arith in absurd (none (next_marks t n c (subst (λ (j : ℕ). arrives p n t j ≡ true) e a)).1)
-        | no q ↦ w.stored t n k c (omega arith) b a
+      stored = λ t n k c l u a. elim (dec_lt i k) [
+        | yes q ↦ w.stored t n k c (omega arith) u a
+        | no q ↦ let e : k ≡ i = omega arith in absurd (none (next_steps m i t n c (subst (λ (j : ℕ). arrives p n t j ≡ true) e a)).1)
       ];
     }
 
-    pub storing_new : to < most_states → get_or marks to 0 ≡ get_or marks from 0 + 1 → Storing p (set lasts to (i - 1)) (i - 1)
+    storing_new : target p i < most_states → StepsRise d p i → Storing p (set lasts (target p i) i) i
     storing_new small e = record {
-      room = length-set lasts to (i - 1) ∙ w.room;
+      room = length-set lasts (target p i) i ∙ w.room;
       within = omega (arith, w.within);
-      stored = λ t n k c l b a. elim (ℕ_discrete t to) [
-        | yes q ↦ rw (q, get_or-set_same lasts to (i - 1) 0 (omega (arith, w.room))) (here n (subst (λ (u : ℕ). Steps p u (suc n)) q c), l)
-        | no q ↦ rw (get_or-set_other lasts to t (i - 1) 0 q) (w.stored t n k c (after t n k c l a q) b a)
+      stored = λ t n k c l u a. elim (ℕ_discrete t (target p i)) [
+        | yes q ↦ rw (q, get_or-set_same lasts (target p i) i 0 (omega (arith, w.room))) (here n (subst (λ (u : ℕ). Steps p u (suc n)) q c), l)
+        | no q ↦ rw (get_or-set_other lasts (target p i) t i 0 q) (w.stored t n k c (after t n k c l a q) u a)
       ];
     }
       where
-        here : (n : ℕ) → Steps p to (suc n) → arrives p n to (i - 1) ≡ true
-        here n c = arrives_at p n to (i - 1) (marks_next n c e) (sym g)
+        here : (n : ℕ) → Steps p (target p i) (suc n) → arrives p n (target p i) i ≡ true
+        here n c = arrives_at p n (target p i) i (steps_next m i n c e) refl
 
-        after : (t n k : ℕ) → Steps p t (suc n) → i - 1 ≤ k → arrives p n t k ≡ true → t ≢ to → i ≤ k
-        after t n k c l a d = elim (dec_lt k i) [
-          | yes q ↦ let x : k ≡ i - 1 = omega arith in absurd (d (next_marks t n c (subst (λ (j : ℕ). arrives p n t j ≡ true) x a)).0)
-          | no q ↦ omega arith
+        after : (t n k : ℕ) → Steps p t (suc n) → i ≤ k → arrives p n t k ≡ true → t ≢ target p i → j ≤ k
+        after t n k c l a d = elim (dec_lt i k) [
+          | yes q ↦ omega arith
+          | no q ↦ let x : k ≡ i = omega arith in absurd (d (next_steps m i t n c (subst (λ (j : ℕ). arrives p n t j ≡ true) x a)).0)
         ]
 
-  pub storing_ends : i ≡ 0 → LastsRight p lasts
-  storing_ends z = record {
-    room = w.room;
-    right = λ t n c.
-        let s = w.stored t n (last_transition p n t) c (omega arith) (last_below p t n c) (last_arrives p t n c) in
-        is_last p t n c (get_or lasts t 0) s.0 s.1;
-  }
+    -- by the steps of the two states
+    module _ (from to : ℕ) (f : from ≡ origin p i) (g : to ≡ target p i) where
+      pub storing_unreached : ((n : ℕ) → get_or d from None ≡ Some n → ⊥) → Storing p lasts i
+      storing_unreached none = storing_past (λ r. none r.0 (ap (λ (u : ℕ). get_or d u None) f ∙ r.1))
+
+      module _ (n : ℕ) (e : get_or d from None ≡ Some n) where
+        pub storing_other : option_eq eqb (get_or d to None) (Some (n + 1)) ≡ false → Storing p lasts i
+        storing_other h = storing_past (λ r. absurd (true≢false (sym (rises r) ∙ h)))
+          where
+            rises : StepsRise d p i → option_eq eqb (get_or d to None) (Some (n + 1)) ≡ true
+            rises (k, a, b) =
+                let same : k ≡ n = same_Some k n (sym a ∙ ap (λ (u : ℕ). get_or d u None) (sym f) ∙ e) in
+                ap (λ (o : Option ℕ). option_eq eqb o (Some (n + 1))) (ap (λ (u : ℕ). get_or d u None) g ∙ b) ∙ eq-eqb (k + 1) (n + 1) (omega arith)
+
+        pub storing_nearer : to < most_states → option_eq eqb (get_or d to None) (Some (n + 1)) ≡ true → Storing p (set lasts to i) i
+        storing_nearer l h =
+            subst (λ (u : ℕ). Storing p (set lasts u i) i) (sym g)
+            (storing_new (omega arith) (n, ap (λ (u : ℕ). get_or d u None) (sym f) ∙ e, ap (λ (u : ℕ). get_or d u None) (sym g) ∙ some_equal (get_or d to None) (n + 1) h))
+
+pub storing_ends : {p lasts : List ℕ} {i : ℕ} → Storing p lasts i → i ≡ 0 → LastsRight p lasts
+storing_ends {p} {lasts} w z = record {
+  room = w.room;
+  right = λ t n c.
+      let s = w.stored t n (last_transition p n t) c (omega arith) (last_below p t n c) (last_arrives p t n c) in
+      is_last p t n c (get_or lasts t 0) s.0 s.1;
+}

@@ -5,17 +5,11 @@ use Rattle.sheet.specs.WellFormed.{WellFormedPlan}
 use Rattle.graph.specs.Search.{most_states}
 use Rattle.closest.specs.Steps.{Steps}
 use Rattle.closest.specs.Tracing.{last_transition}
-use Rattle.closest.specs.Internal.Distances.{StepsMarked}
 
 -- of each state that can be reached, but state 0
 pub record LastsRight (p lasts : List ℕ) : Type 0 where
   pub room : length lasts ≡ most_states
   pub right : (t n : ℕ) → Steps p t (suc n) → get_or lasts t 0 ≡ last_transition p n t
-
-pub record LastsRequire (p marks lasts : List ℕ) : Type 0 where
-  pub kept : WellFormedPlan p
-  pub marked : StepsMarked p marks
-  pub room : length lasts ≡ most_states
 
 -- a way to a state of n steps is to be put at the start of an output
 pub record WayRequires (p lasts : List ℕ) (state n : ℕ) (out : List ℕ) : Type 0 where

@@ -17,6 +17,7 @@ use Rattle.rows.proofs.Tables.Counting.{count_cong}
 use Rattle.graph.specs.Explored.{StartsFrom}
 use Rattle.graph.specs.LoopTest.{loop_free}
 use Rattle.graph.proofs.Search.Colouring.{colourless}
+use Rattle.judge.specs.declared.index.Index.{Index}
 use Rattle.judge.specs.Cells.{Cell, cell, marks, position_of, cell_bytes, table_bytes, InTable}
 use Rattle.judge.specs.StoredCount.{stored_count, filled_cells}
 use Rattle.judge.specs.Querying.{bytes_right, count_right}
@@ -84,7 +85,7 @@ module _ (s t : List ℕ) where
 
 -- ---- the last step
 
-module _ {s index t starts : List ℕ} {cells n : ℕ} (q : AuditRequires s index t starts cells n) where
+module _ {s : List ℕ} {index : Index} {t starts : List ℕ} {cells n : ℕ} (q : AuditRequires s index t starts cells n) where
   all_free : (c : Cell) → FilledCell s t c → loop_free (plan_body s) c.state ≡ true
   all_free c f =
       elim (ℕ_discrete (get_or starts c.state 0) 0) [
@@ -106,7 +107,7 @@ module _ {s index t starts : List ℕ} {cells n : ℕ} (q : AuditRequires s inde
 
 -- ---- the blocks of the states
 
-module _ {s index t : List ℕ} {cells : ℕ} (q : LongTableRequires s index t cells) where
+module _ {s : List ℕ} {index : Index} {t : List ℕ} {cells : ℕ} (q : LongTableRequires s index t cells) where
   abbrev S : ℕ
   S = state_count (plan_body s)
 
@@ -210,13 +211,13 @@ module _ {s index t : List ℕ} {cells : ℕ} (q : LongTableRequires s index t c
       }
 
       -- a loop can be reached from one of the states
-      pub blocks_looped : {index' : List ℕ} {free : Bool} → free ≡ false → StatesTold s starts index' free → Audits s t (Err LoopRefusal)
+      pub blocks_looped : {index' : Index} {free : Bool} → free ≡ false → StatesTold s starts index' free → Audits s t (Err LoopRefusal)
       blocks_looped e (looped _ u h l) =
           let m = b.marked u h in
           audit_looping s t q.accepted q.long b.small m.0 m.1 (ap (loop_free (plan_body s)) m.2 ∙ l)
       blocks_looped e (told f rule states) = absurd (differ _ f e)
 
-      pub blocks_free : {index' : List ℕ} {free : Bool} → free ≡ true → StatesTold s starts index' free → AuditRequires s index' t starts cells n
+      pub blocks_free : {index' : Index} {free : Bool} → free ≡ true → StatesTold s starts index' free → AuditRequires s index' t starts cells n
       blocks_free e (looped f u h l) = absurd (differ _ e f)
       blocks_free e (told _ rule states) = record {
         cells_asked = record {

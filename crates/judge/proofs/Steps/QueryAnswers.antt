@@ -11,6 +11,7 @@ use Rattle.sheet.specs.declared.Refusal.{Refusal}
 use Rattle.sheet.specs.declared.Refusal.TheVariants.{NoSuchState, Loop, TableShort, TableByte}
 use Rattle.std.specs.Prelude.{Err, Ok}
 use Rattle.rows.specs.Tables.{byte_at, filled, count, Result, out, verdict, visits, table}
+use Rattle.judge.specs.declared.index.Index.{Index}
 use Rattle.judge.specs.Cells.{cell, written_rows, enough, position_of, cell_at, cell_bytes, table_bytes, cells_in, count_bytes}
 use Rattle.judge.specs.StoredCount.{in_four_bytes, stored_count, filled_cells, table_with}
 use Rattle.graph.specs.LoopTest.{loop_free}
@@ -101,7 +102,7 @@ module _ (s t : List ℕ) (l : table_bytes s ≤ length t) where
       f ∙ ap₂ (λ (a b : List ℕ). a ++ (in_four_bytes n ++ b)) front back ∙ ap (λ (c : ℕ). left ++ (in_four_bytes n ++ drop (c + count_bytes) t)) is
 
 -- with all prepared
-module _ {s index : List ℕ} {state : ℕ} (q : QueryRequires s index state) (t : List ℕ) where
+module _ {s : List ℕ} {index : Index} {state : ℕ} (q : QueryRequires s index state) (t : List ℕ) where
   pub answers_short : length t < table_bytes s → Queries s state t (Err (Refused TableShort)) t
   unfolding query_check
   answers_short l =
@@ -123,7 +124,7 @@ module _ {s index : List ℕ} {state : ℕ} (q : QueryRequires s index state) (t
     answers_miscounted g f = by_count s state t (passes g) (ne_eqb (stored_count s t) (filled_cells s t) f)
 
 -- on a table that is taken
-module _ {s index : List ℕ} {state : ℕ} {t : List ℕ} {cells stored : ℕ} (q : TableRequires s index state t cells stored) where
+module _ {s : List ℕ} {index : Index} {state : ℕ} {t : List ℕ} {cells stored : ℕ} (q : TableRequires s index state t cells stored) where
   abbrev held : List ℕ
   held = take cells t
 

@@ -19,6 +19,7 @@ use Rattle.graph.specs.Explored.{StartsFrom}
 use Rattle.graph.specs.LoopTest.{all_pass, loop_free}
 use Rattle.graph.proofs.Looptest.Settled.{all_member, all_members}
 use Rattle.graph.proofs.Search.Colouring.{colourless}
+use Rattle.judge.specs.declared.index.Index.{Index}
 use Rattle.judge.specs.Cells.{cell_bytes, table_bytes, cells_in, count_bytes}
 use Rattle.judge.specs.StoredCount.{in_four_bytes, stored_count, filled_cells, table_with}
 use Rattle.judge.specs.Querying.{bytes_right, count_right}
@@ -104,15 +105,15 @@ module _ (s : List ℕ) {states : List ℕ} (accepted : sheet_check s ≡ Ok tt)
         go (missing f _ _ _) = absurd (differ b e f)
         go (marked _ all back) = back
 
-    pub list_asked : {index : List ℕ} → RuleTold s index → StatesAsked s index starts
+    pub list_asked : {index : Index} → RuleTold s index → StatesAsked s index starts
     list_asked r = record { accepted = accepted; rule_told = r; starts_below = λ u h. (listed u (named u h)).0 }
 
-    pub list_looped : {index : List ℕ} {free : Bool} → free ≡ false → StatesTold s starts index free → (t : List ℕ)
+    pub list_looped : {index : Index} {free : Bool} → free ≡ false → StatesTold s starts index free → (t : List ℕ)
         → QueriesInTurn s states t (Err (Refused Loop)) t
     list_looped f (looped _ u h l) t = in_turn_loop s states t accepted (λ v m. (listed v m).0) u (named u h) l
     list_looped f (told g _ _) t = absurd (differ _ g f)
 
-    pub list_free : {index : List ℕ} {free : Bool} → free ≡ true → StatesTold s starts index free → EachPrepared s index states
+    pub list_free : {index : Index} {free : Bool} → free ≡ true → StatesTold s starts index free → EachPrepared s index states
     list_free f (looped g _ _ _) = absurd (differ _ f g)
     list_free f (told _ rule each) = record {
       accepted = accepted;
@@ -130,7 +131,7 @@ pub record StatesTaken (s states : List ℕ) : Type 0 where
   pub there : (u : ℕ) → Memᴰ u states → u < state_count (plan_body s)
   pub free : (u : ℕ) → Memᴰ u states → loop_free (plan_body s) u ≡ true
 
-pub states_taken : {s index states : List ℕ} → EachPrepared s index states → StatesTaken s states
+pub states_taken : {s : List ℕ} {index : Index} {states : List ℕ} → EachPrepared s index states → StatesTaken s states
 states_taken p = record { accepted = p.accepted; there = λ u m. (p.each u m).state_below; free = λ u m. (p.each u m).loop_free_holds }
 
 module _ {s states : List ℕ} (p : StatesTaken s states) (t : List ℕ) where
@@ -158,7 +159,7 @@ module _ {s states : List ℕ} (p : StatesTaken s states) (t : List ℕ) where
     in_turn_miscounted g f = by_count s states t (passes g) (ne_eqb (stored_count s t) (filled_cells s t) f)
 
 -- on a table that is taken
-module _ {s index states t : List ℕ} {cells stored : ℕ} (q : TurnsRequires s index states t cells stored) where
+module _ {s : List ℕ} {index : Index} {states t : List ℕ} {cells stored : ℕ} (q : TurnsRequires s index states t cells stored) where
   abbrev held : List ℕ
   held = take cells t
 

@@ -78,23 +78,31 @@ module _ (s : List ℕ) where
     pub answer_large : 64 < count → References s (Err TooManyStates)
     answer_large h = promised (promised_large s e (omega (arith, count_is)))
 
-    module _ (few : count ≤ 64) (a : List ℕ) (actions : a ≡ actions_body s) (A : ℕ) (labels : A ≡ action_count p) (masks : List ℕ) (met : ActionMasks a A masks)
-        (r : List ℕ) (rule : r ≡ rule_body s) (full : ℕ) (all : full ≡ 2 ^ count - 1)
-        (words : List ℕ) (re : Restarted r 0 (node_count r) 8 full (replicate 6 0) words) where
-      full_is : full ≡ 2 ^ state_count (plan_body s) - 1
-      full_is = all ∙ ap (λ (i : ℕ). 2 ^ i - 1) count_is
+    -- a judge can be made of the sheet
+    pub judge_few : count ≤ 64 → state_count (plan_body s) ≤ 64
+    judge_few few = omega (arith, count_is)
+
+    pub judge_met : (a : List ℕ) → a ≡ actions_body s → (A : ℕ) → A ≡ action_count p → (masks : List ℕ) → ActionMasks a A masks
+        → ActionMasks (actions_body s) (action_count (plan_body s)) masks
+    judge_met a actions A labels masks met =
+        subst (λ (b : List ℕ). ActionMasks b (action_count (plan_body s)) masks) actions (subst (λ (k : ℕ). ActionMasks a k masks) (labels ∙ ap action_count plan) met)
+
+    pub judge_whole : (full : ℕ) → full ≡ 2 ^ count - 1 → full ≡ 2 ^ state_count (plan_body s) - 1
+    judge_whole full q = q ∙ ap (λ (i : ℕ). 2 ^ i - 1) count_is
+
+    module _ (few : count ≤ 64) (r : List ℕ) (rule : r ≡ rule_body s) (full : ℕ) (all : full ≡ 2 ^ count - 1)
+        (none : List ℕ) (empty : none ≡ replicate 6 0) (words : List ℕ) (re' : Restarted r 0 (node_count r) 8 full none words) where
+      re : Restarted r 0 (node_count r) 8 full (replicate 6 0) words
+      re = subst (λ (o : List ℕ). Restarted r 0 (node_count r) 8 full o words) empty re'
 
       kept : WellFormedSheet s
       kept = sheet_kept s e
 
-      pub start : Evaluating s masks 0 words
+      pub start : Evaluating s 0 words
       start = record {
-        kept = kept;
-        few = omega (arith, count_is);
-        met = subst (λ (b : List ℕ). ActionMasks b (action_count (plan_body s)) masks) actions (subst (λ (k : ℕ). ActionMasks a k masks) (labels ∙ ap action_count plan) met);
         among = kept.bodies_kept.rule_kept.some_nodes;
-        sets = first_sets kept r rule full full_is words re;
-        ready = first_ready kept r rule full full_is words re;
+        sets = first_sets kept r rule full (judge_whole full all) words re;
+        ready = first_ready kept r rule full (judge_whole full all) words re;
       }
 
       pub answer_word_lem : (words' : List ℕ) (w : ℕ) → Evaluated s 0 words words' w → References s (Ok w)

@@ -75,7 +75,7 @@ module _ {s masks : List ℕ} {n : ℕ} {words₀ : List ℕ} {f : Fields} (at :
     pub least_less : (full : ℕ) (words₂ : List ℕ) → words₂ ≡ set words₁ f.x (bit_or v w) → (r : List ℕ) → r ≡ rule_body s → (words₃ : List ℕ)
         → Restarted r f.y (node_count r) 8 full words₂ words₃ → (bit_or v w ≡ v → ⊥) → 2 ^ 64 - get_or words₃ f.x 0 < 2 ^ 64 - get_or words f.x 0
     least_less full words₂ put r rule words₃ re q =
-        omega (arith, own at h g words i' words₁ w m (bit_or v w) full 8 words₂ put r rule words₃ re (omega arith) (omega arith), v_is, or_left (states_of s) v w at.pre.few small q)
+        omega (arith, own at h g words i' words₁ w m (bit_or v w) full 8 words₂ put r rule words₃ re (omega arith) (omega arith), v_is, or_left (states_of s) v w at.judging.few small q)
 
     pub least_round : (full : ℕ) → full ≡ 2 ^ states_of s - 1 → (words₂ : List ℕ) → words₂ ≡ set words₁ f.x (bit_or v w) → (r : List ℕ) → r ≡ rule_body s → (words₃ : List ℕ)
         → Restarted r f.y (node_count r) 8 full words₂ words₃ → Going s (f.y - 1) f.x words₀ words₃
@@ -106,7 +106,7 @@ module _ {s masks : List ℕ} {n : ℕ} {words₀ : List ℕ} {f : Fields} (at :
             go (inr (inr q)) = ap (λ (z : ℕ). bit z t) q ∙ e
 
         more : (b : ℕ) → b < node_count (rule_body s) → (t : ℕ) → t < states_of s → NodeMeaning s b words₁ t → NodeMeaning s b words₃ t
-        more b l = meaning_more at.pre.kept b l words₁ words₃ grown
+        more b l = meaning_more at.judging.kept b l words₁ words₃ grown
 
         node : (t : ℕ) → t < states_of s → bit (get_or words₃ (node_x (rule_body s) n) 0) t ≡ true → NodeMeaning s n words₃ t
         node t l e =
@@ -145,13 +145,14 @@ module _ {s masks : List ℕ} {n : ℕ} {words₀ : List ℕ} {f : Fields} (at :
 
     -- the set has shrunk
     pub greatest_less : (words₂ : List ℕ) → words₂ ≡ set words₁ f.x (bit_and v w) → (r : List ℕ) → r ≡ rule_body s → (words₃ : List ℕ)
-        → Restarted r f.y (node_count r) 7 0 words₂ words₃ → (bit_and v w ≡ v → ⊥) → get_or words₃ f.x 0 < get_or words f.x 0
-    greatest_less words₂ put r rule words₃ re q =
+        → (empty : ℕ) → empty ≡ 0 → Restarted r f.y (node_count r) 7 empty words₂ words₃ → (bit_and v w ≡ v → ⊥) → get_or words₃ f.x 0 < get_or words f.x 0
+    greatest_less words₂ put r rule words₃ empty none re' q =
+        let re = subst (λ (o : ℕ). Restarted r f.y (node_count r) 7 o words₂ words₃) none re' in
         omega (arith, own at h g words i' words₁ w m (bit_and v w) 0 7 words₂ put r rule words₃ re (omega arith) (omega arith), v_is, and_falls v w q)
 
     pub greatest_round : (words₂ : List ℕ) → words₂ ≡ set words₁ f.x (bit_and v w) → (r : List ℕ) → r ≡ rule_body s → (words₃ : List ℕ)
-        → Restarted r f.y (node_count r) 7 0 words₂ words₃ → Going s (f.y - 1) f.x words₀ words₃
-    greatest_round words₂ put r rule words₃ re =
+        → (empty : ℕ) → empty ≡ 0 → Restarted r f.y (node_count r) 7 empty words₂ words₃ → Going s (f.y - 1) f.x words₀ words₃
+    greatest_round words₂ put r rule words₃ empty none re' =
         again at h g words i' words₁ w m (bit_and v w) 0 7 words₂ put r rule words₃ re (omega arith) (omega arith) (and_lt (states_of s) v w small m.are.small) (pow_pos (states_of s)) (record {
           inside = λ b c l e. elim (dec_lt n b) [
             | yes d ↦ (λ t r' q. absurd (false≢true (sym (bit_zero t) ∙ (sym (ap (λ (z : ℕ). bit z t)
@@ -165,6 +166,9 @@ module _ {s masks : List ℕ} {n : ℕ} {words₀ : List ℕ} {f : Fields} (at :
           ];
         })
       where
+        re : Restarted r f.y (node_count r) 7 0 words₂ words₃
+        re = subst (λ (o : ℕ). Restarted r f.y (node_count r) 7 o words₂ words₃) none re'
+
         fallen : (k t : ℕ) → t < states_of s → bit (get_or words₃ k 0) t ≡ true → bit (get_or words₁ k 0) t ≡ true
         fallen k t l e = go (each at h g words i' words₁ w m (bit_and v w) 0 7 words₂ put r rule words₃ re (omega arith) (omega arith) k)
           where
@@ -176,7 +180,7 @@ module _ {s masks : List ℕ} {n : ℕ} {words₀ : List ℕ} {f : Fields} (at :
             go (inr (inr q)) = sym (ap (λ (z : ℕ). bit z t) q) ∙ e
 
         less : (b : ℕ) → b < node_count (rule_body s) → (t : ℕ) → t < states_of s → NodeMeaning s b words₃ t → NodeMeaning s b words₁ t
-        less b l = meaning_more at.pre.kept b l words₃ words₁ fallen
+        less b l = meaning_more at.judging.kept b l words₃ words₁ fallen
 
         node : (t : ℕ) → t < states_of s → NodeMeaning s n words₃ t → bit (get_or words₃ (node_x (rule_body s) n) 0) t ≡ true
         node t l e =

@@ -60,22 +60,22 @@ module _ {s masks : List ℕ} {n : ℕ} {words₀ : List ℕ} {f : Fields} (at :
     next_is = y_is at ∙ body.y_is
 
     number_is : f.x ≡ binders_before (rule_body s) n
-    number_is = x_is at ∙ bound_number at.pre.kept n at.pre.among (omega (arith, kind_is at)) (omega (arith, kind_is at))
+    number_is = x_is at ∙ bound_number at.judging.kept n at.pre.among (omega (arith, kind_is at)) (omega (arith, kind_is at))
 
     number_next : binders_before (rule_body s) f.y ≡ suc f.x
     number_next =
         ap (binders_before (rule_body s)) next_is ∙
-        (bound_next at.pre.kept n at.pre.among (omega (arith, kind_is at)) (omega (arith, kind_is at)) ∙ ap suc (sym (x_is at)))
+        (bound_next at.judging.kept n at.pre.among (omega (arith, kind_is at)) (omega (arith, kind_is at)) ∙ ap suc (sym (x_is at)))
 
     pub binder_six : f.x < 6
-    binder_six = omega (arith, x_is at, bound_six at.pre.kept n at.pre.among (omega (arith, kind_is at)) (omega (arith, kind_is at)))
+    binder_six = omega (arith, x_is at, bound_six at.judging.kept n at.pre.among (omega (arith, kind_is at)) (omega (arith, kind_is at)))
 
     pub restart_asked : (r : List ℕ) → r ≡ rule_body s → (kind : ℕ) → 7 ≤ kind → kind < 9 → Restartable r f.y kind
-    restart_asked r rule kind low high = restartable at.pre.kept rule f.y kind (omega (arith, next_is, body.below)) low high
+    restart_asked r rule kind low high = restartable at.judging.kept rule f.y kind (omega (arith, next_is, body.below)) low high
 
     -- the rounds as the loop knows them, by the number of the child
     pub going_start : Going s (f.y - 1) f.x words₀ words₀
-    going_start = record { same = λ k l. refl; sets = at.pre.sets; ready = ready_later at.pre.kept (omega (arith, next_is)) at.pre.ready }
+    going_start = record { same = λ k l. refl; sets = at.pre.sets; ready = ready_later at.judging.kept (omega (arith, next_is)) at.pre.ready }
 
     going : {words : List ℕ} → Going s (f.y - 1) f.x words₀ words → Going s n f.x words₀ words
     going {words} i = let q : f.y - 1 ≡ n = omega (arith, next_is) in subst (λ (j : ℕ). Going s j f.x words₀ words) q i
@@ -84,16 +84,16 @@ module _ {s masks : List ℕ} {n : ℕ} {words₀ : List ℕ} {f : Fields} (at :
     back {words} i = let q : n ≡ f.y - 1 = omega (arith, next_is) in subst (λ (j : ℕ). Going s j f.x words₀ words) q i
 
     pub wf : TransitionsInRange (plan_of (plan_body s))
-    wf = sheet_in_range at.pre.kept
+    wf = sheet_in_range at.judging.kept
 
     module _ (words : List ℕ) (i' : Going s (f.y - 1) f.x words₀ words) where
       pub i : Going s n f.x words₀ words
       i = going i'
 
-      pub call_binder : Call s masks n f.y words
+      pub call_binder : Call s n f.y words
       call_binder =
           call at f.y words (omega (arith, next_is)) (omega (arith, next_is, body.below)) i.sets
-          (ready_later at.pre.kept (omega (arith, next_is)) i.ready)
+          (ready_later at.judging.kept (omega (arith, next_is)) i.ready)
 
       module _ (words₁ : List ℕ) (w : ℕ) (m : Evaluated s f.y words words₁ w) where
         -- the child leaves the variables bound before it as they are, the node's own among them
@@ -103,10 +103,10 @@ module _ {s masks : List ℕ} {n : ℕ} {words₀ : List ℕ} {f : Fields} (at :
         -- what the rounds come back with
         pub came : {u : ℕ} → Members (states_of s) u (NodeMeaning s n words) → Evaluated s n words₀ words₁ u
         came a = record {
-          are = members_as a (meaning_same at.pre.kept n at.pre.among words words₀ (λ k l. i.same k (omega (arith, number_is))));
+          are = members_as a (meaning_same at.judging.kept n at.pre.among words words₀ (λ k l. i.same k (omega (arith, number_is))));
           same = λ k l. kept k (omega (arith, number_is)) ∙ i.same k (omega (arith, number_is));
           sets = m.sets;
-          ready = ready_join at.pre.kept i.ready m.ready m.same;
+          ready = ready_join at.judging.kept i.ready m.ready m.same;
         }
 
         -- Another round: the set u for the node's variable, and o for those of the kind after it.
@@ -117,7 +117,7 @@ module _ {s masks : List ℕ} {n : ℕ} {words₀ : List ℕ} {f : Fields} (at :
 
           -- a fixed point after the node has a later variable
           later : (b : ℕ) → f.y ≤ b → b < node_count (rule_body s) → 7 ≤ node_kind (rule_body s) b → node_kind (rule_body s) b < 9 → f.x < node_x (rule_body s) b
-          later b after l h' g' = omega (arith, number_next, bound_number at.pre.kept b l h' g', binders_rise (rule_body s) f.y b after)
+          later b after l h' g' = omega (arith, number_next, bound_number at.judging.kept b l h' g', binders_rise (rule_body s) f.y b after)
 
           kept_to : (k : ℕ) → k < suc f.x → get_or words₃ k 0 ≡ get_or words₂ k 0
           kept_to k l = re.same k (λ b a c q e. omega (arith, later b a c (omega arith) (omega arith)))
@@ -146,18 +146,18 @@ module _ {s masks : List ℕ} {n : ℕ} {words₀ : List ℕ} {f : Fields} (at :
             pub stays : (node_kind (rule_body s) b ≡ kind → ⊥) → get_or words₃ (node_x (rule_body s) b) 0 ≡ get_or words₁ (node_x (rule_body s) b) 0
             stays d =
                 re.same (node_x (rule_body s) b) (λ c a k q e.
-                d (ap (node_kind (rule_body s)) (bound_one at.pre.kept b c l k h' g' (omega arith) (omega arith) (sym e)) ∙ q))
+                d (ap (node_kind (rule_body s)) (bound_one at.judging.kept b c l k h' g' (omega arith) (omega arith) (sym e)) ∙ q))
                 ∙ other (node_x (rule_body s) b) (λ q. omega (arith, later b (omega (arith, next_is)) l h' g'))
 
             pub starts : node_kind (rule_body s) b ≡ kind → get_or words₃ (node_x (rule_body s) b) 0 ≡ o
-            starts q = re.anew b (omega (arith, next_is)) l q (omega (arith, size, bound_six at.pre.kept b l h' g'))
+            starts q = re.anew b (omega (arith, next_is)) l q (omega (arith, size, bound_six at.judging.kept b l h' g'))
 
           -- the variables bound before the node
           before : (k : ℕ) → k < f.x → get_or words₃ k 0 ≡ get_or words k 0
           before k l = kept_to k (omega arith) ∙ (other k (λ q. omega arith) ∙ kept k (omega arith))
 
           pub here : (t : ℕ) → t < states_of s → NodeMeaning s n words t ↔ NodeMeaning s n words₃ t
-          here = meaning_same at.pre.kept n at.pre.among words words₃ (λ k l. sym (before k (omega (arith, number_is))))
+          here = meaning_same at.judging.kept n at.pre.among words words₃ (λ k l. sym (before k (omega (arith, number_is))))
 
           pub again : u < 2 ^ states_of s → o < 2 ^ states_of s → Ready s n words₃ → Going s (f.y - 1) f.x words₀ words₃
           again lu lo q = back (record {

@@ -1,9 +1,8 @@
 -- What private functions ask and promise. No promise of a public call cites these.
 use Rattle.std.specs.Prelude.{ℕ, ◌^◌, ◌<◌, ◌≤◌, ◌≡◌, Bool, true, List, ◌⊎◌, length, get_or}
 use Rattle.sheet.specs.Contents.{plan_body, actions_body, rule_body}
-use Rattle.sheet.specs.Plan.{state_count, action_count, transition_count, origin, label, target}
+use Rattle.sheet.specs.Plan.{state_count, transition_count, origin, label, target}
 use Rattle.sheet.specs.Rule.{node_count, node_kind, node_x, binders_before}
-use Rattle.sheet.specs.WellFormed.{WellFormedSheet}
 use Rattle.calculus.specs.Meaning.{Holds}
 use Rattle.sheet.specs.TransitionSystem.{plan_of}
 use Rattle.calculus.specs.Decode.{formula}
@@ -65,11 +64,8 @@ pub record Ready (s : List ℕ) (n : ℕ) (words : List ℕ) : Type 0 where
   pub around : (b : ℕ) → n ≤ b → b < node_count (rule_body s) → node_kind (rule_body s) b ≡ 8 → (t : ℕ) → t < state_count (plan_body s)
       → NodeMeaning s b words t → bit (get_or words (node_x (rule_body s) b) 0) t ≡ true
 
--- node n of an accepted sheet of at most 64 states
-pub record Evaluating (s masks : List ℕ) (n : ℕ) (words : List ℕ) : Type 0 where
-  pub kept : WellFormedSheet s
-  pub few : state_count (plan_body s) ≤ 64
-  pub met : ActionMasks (actions_body s) (action_count (plan_body s)) masks
+-- node n, and the sets of the variables
+pub record Evaluating (s : List ℕ) (n : ℕ) (words : List ℕ) : Type 0 where
   pub among : n < node_count (rule_body s)
   pub sets : SixSets (state_count (plan_body s)) words
   pub ready : Ready s n words

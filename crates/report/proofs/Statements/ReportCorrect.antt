@@ -27,8 +27,8 @@ use Rattle.judge.proofs.Statements.RunningCalls.{delivered}
 use Rattle.report.specs.Text.{tally_of}
 use Rattle.report.specs.Reporting.{most_queries, least_output, few_queries, report_check, answers_of, table_after_queries, report_text, answer_report, report_of, leaves, table_reported, output_reported, reported_text, TextReport, WritesReport}
 use Rattle.report.specs.ReportCorrect.{RoomForEveryReport, ReportNumbers, ReportCorrect, ReportsCorrect}
-use Rattle.report.specs.declared.Report.{Report}
-use Rattle.report.specs.declared.Report.TheVariants.{Wrote, TooManyQueries, Refused}
+use Rattle.report.specs.Reporting.{Report}
+use Rattle.report.specs.declared.ReportError.TheVariants.{TooManyQueries, Refused}
 use Rattle.report.proofs.Lists.OneMore.{tally_sum}
 use Rattle.report.proofs.Steps.LineSteps.{text_length_lem}
 
@@ -68,11 +68,11 @@ turned_down e = ap turned_down_by e
 
 -- the four ways out of a report
 data Way (s states t out : List ℕ) : Report → List ℕ → List ℕ → Type 0 where
-  many : most_queries < length states → Way s states t out TooManyQueries t out
-  clearing : length states ≤ most_queries → (x : Refusal) → clear_check s t ≡ Err x → Way s states t out (Refused x) t out
-  short : length states ≤ most_queries → clear_check s t ≡ Ok tt → length out < least_output → Way s states t out (Refused OutputShort) t out
+  many : most_queries < length states → Way s states t out (Err TooManyQueries) t out
+  clearing : length states ≤ most_queries → (x : Refusal) → clear_check s t ≡ Err x → Way s states t out (Err (Refused x)) t out
+  short : length states ≤ most_queries → clear_check s t ≡ Ok tt → length out < least_output → Way s states t out (Err (Refused OutputShort)) t out
   written : length states ≤ most_queries → clear_check s t ≡ Ok tt → least_output ≤ length out
-      → Way s states t out (Wrote (length (report_text s states t))) (table_after_queries s states t) (starting_with (report_text s states t) out)
+      → Way s states t out (Ok (length (report_text s states t))) (table_after_queries s states t) (starting_with (report_text s states t) out)
 
 module _ (s states t out : List ℕ) where
   -- the answer, and with it what is left

@@ -1,5 +1,5 @@
 -- The loop over the queries: after i of them the lines, the tally and the table are those of the first i.
-use Prim.Native.Nat.{ℕ, ◌+◌, ◌*◌, ◌<◌, ◌≤◌, ◌^◌}
+use Prim.Native.Nat.{ℕ, ◌+◌, ◌*◌, ◌<◌, ◌≤◌}
 use mathlib.Core.Path.{◌≡◌, refl, sym, ap, ap₂, subst, ◌∙◌}
 use mathlib.Core.List.{List, [], ◌∷◌, ◌++◌}
 use native.Mathlib.Omega.{arith}
@@ -16,15 +16,15 @@ use Rattle.std.specs.Prelude.{Ok}
 use Rattle.sheet.proofs.Acceptance.Sheet.{accepted_iff}
 use Rattle.judge.specs.LargestTable.{most_cells}
 use Rattle.judge.specs.Clearing.{cleared_of, table_cleared}
-use Rattle.judge.specs.Querying.{QueryReport, query_report_of, table_queried}
+use Rattle.judge.specs.Querying.{query_report_of, table_queried}
 use Rattle.judge.specs.Lists.{reports, table_after, visits_of}
 use Rattle.judge.specs.Demand3.{ListCorrect}
 use Rattle.judge.proofs.Statements.CallNumbers.{call_numbers}
 use Rattle.judge.proofs.Statements.LargestTable.{every_table_fits}
 use Rattle.judge.proofs.Statements.Demand3.{demand3}
-use Rattle.report.specs.Text.{line_of, lines_of, tally_from, tally_of, total_line, text_of}
+use Rattle.report.specs.Text.{lines_of, tally_from, tally_of, total_line, text_of}
 use Rattle.report.specs.Reporting.{least_output}
-use Rattle.report.specs.Internal.Lines.{FitsAt, PutsAt, line_queried, updated_tally, LineRequires, tally_queried, AddsLine, lines_after, LinesRequire, AddsLines}
+use Rattle.report.specs.Internal.Lines.{FitsAt, PutsAt, line_queried, LineRequires, tally_queried, AddsLine, lines_after, LinesRequire, AddsLines}
 use Rattle.report.specs.declared.Tally.{Tally}
 use Rattle.report.proofs.Lists.OneMore.{reports_more, table_more, as_many, lines_more, tally_more, tally_sum}
 use Rattle.report.proofs.Texts.Lengths.{lines_length, total_length}
@@ -63,10 +63,6 @@ module _ (s states t out : List ℕ) (r : LinesRequire s states t out) where
   first_fits k h = omega (arith, first_length_lem k h, r.few, r.long)
 
   module _ (i : ℕ) (within : i ≤ length states) {tally : Tally} {u v : List ℕ} (d : AddsLines s (take i states) t out tally u v) where
-    pub table_length : length u ≡ length t
-    unfolding table_after
-    table_length = ap length d.table_is ∙ ((first_correct i).length_kept ∙ sym (first_correct 0).length_kept)
-
     pub output_length : length v ≡ length out
     output_length = ap length d.output_is ∙ starting_length (lines_after s (take i states) t) out (first_fits i within)
 
@@ -147,19 +143,3 @@ no_lines s states t out = record { tally_is = refl; table_is = refl; output_is =
 
 pub all_lines : (s states t out : List ℕ) (i : ℕ) {tally : Tally} {u v : List ℕ} → length states ≤ i → AddsLines s (take i states) t out tally u v → AddsLines s states t out tally u v
 all_lines s states t out i {tally} {u} {v} h d = subst (λ (l : List ℕ). AddsLines s l t out tally u v) (take_all i states h) d
-
--- one line, by what the query, the text and the tally gave
-module _ (s : List ℕ) (state : ℕ) (t out : List ℕ) (tally : Tally) (q : QueryReport) (is : q ≡ query_report_of s state t) where
-  pub line_fits : LineRequires s state t out tally → FitsAt (line_of state q) tally.length out
-  line_fits r = subst (λ (p : QueryReport). FitsAt (line_of state p) tally.length out) (sym is) r.0
-
-  module _ {n : ℕ} (n-is : n ≡ q.visits) where
-    pub tally_fits : LineRequires s state t out tally → tally.visits + n < 2 ^ 64
-    tally_fits r = omega (arith, n-is, ap (λ (p : QueryReport). p.visits) is, r.1)
-
-    pub line_added_lem : {end : ℕ} {tally' : Tally} {u v : List ℕ} → tally' ≡ updated_tally tally n end → u ≡ table_queried s state t → PutsAt (line_of state q) tally.length out end v
-        → AddsLine s state t out tally tally' u v
-    line_added_lem tally_is table_is p = (
-      tally_is ∙ (λ j. updated_tally tally ((n-is ∙ ap (λ (x : QueryReport). x.visits) is) j) ((p.0 ∙ ap (λ (x : QueryReport). tally.length + length (line_of state x)) is) j)),
-      (table_is, p.1 ∙ ap (λ (x : QueryReport). buffer_after (line_of state x) tally.length out) is),
-    )

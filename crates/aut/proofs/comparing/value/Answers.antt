@@ -1,23 +1,15 @@
-use native.Mathlib.Omega.{arith}
-use mathlib.Core.Path.{ap}
-use Rattle.text.specs.Numerals.{decimal_from}
-use Rattle.aut.proofs.Steps.Digits.{left_start, value_over, value_next, value_done}
+use Rattle.std.proofs.Common.{◌∙◌, arith}
+use Rattle.aut.proofs.Steps.Digits.{value_turn, value_end}
 use Rattle.aut.proofs.comparing.value.Goals as goal
 
-pub loop-i-init : goal.loop-i-init
-loop-i-init c = (omega arith, omega arith, ap (decimal_from 0) (left_start c.args.text.now c.args.at c.args.n))
-
-pub digit-d-requires : goal.digit-d-requires
-digit-d-requires c = search borrow.Author.Rules.rules
-
-pub returns-then-bound-v : goal.returns-then-bound-v
-returns-then-bound-v c = value_over c.args.text.now c.args.at c.args.n c.args.bound c.loop-i.v c.loop-i.i _ (omega arith) (omega arith) (omega arith) c.loop-i.invariant.2
-
-pub returns-then-bound-v-2 : goal.returns-then-bound-v-2
-returns-then-bound-v-2 c = value_over c.args.text.now c.args.at c.args.n c.args.bound c.loop-i.v c.loop-i.i _ (omega arith) (omega arith) (omega arith) c.loop-i.invariant.2
-
-pub loop-i-preserved : goal.loop-i-preserved
-loop-i-preserved c = (omega arith, omega arith, value_next c.args.text.now c.args.at c.args.n c.args.bound c.loop-i.v c.loop-i.i _ (omega arith) _ (omega arith) (omega arith) c.loop-i.invariant.2)
+pub loop-digit-preserved : goal.loop-digit-preserved
+loop-digit-preserved c =
+    let l = c.loop-digit in (
+      omega (arith, c.min-value.ensures),
+      value_turn c.args.digits.now c.args.bound l.value l.digit-index (omega arith) (omega arith) l.invariant.0
+          c.saturating_mul.ensures (c.from.ensures ∙ c.saturating_sub.ensures) c.saturating_add.ensures c.min-value.ensures
+          ∙ l.invariant.1,
+    )
 
 pub returns : goal.returns
-returns c = value_done c.args.text.now c.args.at c.args.n c.args.bound c.loop-i.v c.loop-i.i _ (omega arith) (omega arith) (omega arith) c.loop-i.invariant.2
+returns c = value_end c.args.digits.now c.args.bound c.loop-digit.value c.loop-digit.digit-index (omega arith) c.loop-digit.invariant.0 ∙ c.loop-digit.invariant.1

@@ -1,53 +1,41 @@
-use native.Mathlib.Omega.{arith}
-use Prim.Native.Nat.{ℕ, min}
-use mathlib.Core.Path.{sym, ap, subst, ◌∙◌}
-use Rattle.aut.specs.Scanning.{text_first_line}
-use Rattle.aut.specs.declared.converting.Outcome.TheVariants.{StateOutOfRange, OverLimits, Fits}
-use Rattle.aut.proofs.Steps.FirstLines.{first_read}
-use Rattle.aut.proofs.Steps.Passing.{not_begun}
+use Rattle.std.proofs.Common.{◌≡◌, refl, sym, subst, ℕ, List, true}
+use Rattle.std.proofs.lemmas.Result.{err_from_is_err_and}
+use Rattle.text.specs.Numerals.{is_decimal}
+use Rattle.aut.specs.Scanning.{rest}
+use Rattle.aut.specs.Internal.Answering.{BodyWritten}
+use Rattle.aut.proofs.Reading.Lines.{first_line_read}
 use Rattle.aut.proofs.Steps.Checking.{bounded_test}
-use Rattle.aut.proofs.Steps.Answering.{found, Says, says, unreadable_answered, malformed_answered, range_answered, limits_answered}
-use Rattle.aut.proofs.Steps.Answering.{fit_within, fit_states, fit_answered}
+use Rattle.aut.proofs.Steps.Answering.{heading_unread, lines_unread, refused, written}
 use Rattle.aut.proofs.converting.convert.Goals as goal
 
-pub returns-then-text-first : goal.returns-then-text-first
-returns-then-text-first c = unreadable_answered c.args.text.now c.args.out.now
-    (not_begun c.args.text.now c.first_line-first.result c.first_line-first.ensures (omega arith))
+pub returns-in_default : goal.returns-in_default
+returns-in_default c = heading_unread c.args.text.now c.args.out.now c.in_default.ensures
 
-pub pass_over-pass-requires : goal.pass_over-pass-requires
-pass_over-pass-requires c = let a = c.args.text in
-    let q = (c.value-states.ensures ∙ ap (λ (k : ℕ). min k 129) (first_read a.now c.first_line-first.result c.first_line-first.ensures (omega (arith, c.if-text-first.false))).stated_is) in
-    record { first_parts = (c.first_line-first.ensures, (omega (arith, c.if-text-first.false))); few_value = ((bounded_test (text_first_line a.now).states _ q), record { places_room = omega (arith, c.no_places-places.ensures); sums_room = omega (arith, c.no_sums-sums.ensures); hints_room = omega (arith, c.no_hints-hints.ensures); keys_room = omega (arith, c.no_keys-keys.ensures) }) }
+pub pass_over-requires-clause-states_read : goal.pass_over-requires-clause-states_read
+pass_over-requires-clause-states_read c =
+    let h = c.in-Some.ensures in (
+      subst (λ (ds : List ℕ). is_decimal ds ≡ true) (sym h.0.states_is) (first_line_read (rest c.args.text.now) h.1).2,
+      bounded_test _ _ c.value-states.ensures,
+    )
 
-pub check_text-found-requires : goal.check_text-found-requires
-check_text-found-requires c = let a = c.args.text in
-    let q = (c.value-states.ensures ∙ ap (λ (k : ℕ). min k 129) (first_read a.now c.first_line-first.result c.first_line-first.ensures (omega (arith, c.if-text-first.false))).stated_is) in
-    record { first_parts = (c.first_line-first.ensures, (omega (arith, c.if-text-first.false))); found = (found a.now _ _ _ _ (bounded_test (text_first_line a.now).states _ q) (record { places_room = omega (arith, c.pass_over-pass.auto.places, c.no_places-places.ensures); keys_room = omega (arith, c.pass_over-pass.auto.keys, c.no_keys-keys.ensures) }) c.pass_over-pass.ensures, q) }
+pub returns-in_default-pass_over : goal.returns-in_default-pass_over
+returns-in_default-pass_over c =
+    lines_unread c.args.text.now c.args.out.now _ c.in-Some.ensures.1 c.in_default-pass_over.ensures
 
-pub write_body-requires : goal.write_body-requires
-write_body-requires c = let a = c.args.text in
-    let y : Says a.now Fits = subst (Says a.now) (sym c.check_text-found.ensures ∙ c.in-Fits.is) (says a.now) in
-    let q = (c.value-states.ensures ∙ ap (λ (k : ℕ). min k 129) (first_read a.now c.first_line-first.result c.first_line-first.ensures (omega (arith, c.if-text-first.false))).stated_is) in
-    let w = fit_within a.now _ _ _ _ (bounded_test (text_first_line a.now).states _ q) (record { places_room = omega (arith, c.pass_over-pass.auto.places, c.no_places-places.ensures); keys_room = omega (arith, c.pass_over-pass.auto.keys, c.no_keys-keys.ensures) }) c.pass_over-pass.ensures y in
-    let f = fit_states a.now _ _ _ _ (bounded_test (text_first_line a.now).states _ q) (record { places_room = omega (arith, c.pass_over-pass.auto.places, c.no_places-places.ensures); keys_room = omega (arith, c.pass_over-pass.auto.keys, c.no_keys-keys.ensures) }) c.pass_over-pass.ensures y _ q in
-    record { states_bound = (omega (arith, f.1), omega (arith, w.few_labels)); count_in_bounds = (omega (arith, w.few_keys, c.pass_over-pass.auto.keys, c.no_keys-keys.ensures), w.few_keys) }
+pub returns-in_err-check_text : goal.returns-in_err-check_text
+returns-in_err-check_text c =
+    let h = c.in-Some.ensures in
+    let p = err_from_is_err_and c.from_residual.result c.from_residual.ensures.1 in
+    rw (p.1, p.2)
+    (refused c.args.text.now c.args.out.now _ h.1 c.in-Some.first h.0 _ _ _ c.in-Some-pass_over.ensures _ c.value-states.ensures refl
+    (sym c.in_err-check_text.ensures))
 
-pub returns-in-Malformed : goal.returns-in-Malformed
-returns-in-Malformed c = let a = c.args.text in
-    malformed_answered a.now c.args.out.now (subst (Says a.now) (sym c.check_text-found.ensures ∙ c.in-Malformed.is) (says a.now))
-
-pub returns-in-StateOutOfRange : goal.returns-in-StateOutOfRange
-returns-in-StateOutOfRange c = let a = c.args.text in
-    let y : Says a.now StateOutOfRange = subst (Says a.now) (sym c.check_text-found.ensures ∙ c.in-StateOutOfRange.is) (says a.now) in
-    range_answered a.now c.args.out.now y.0 y.1
-
-pub returns-in-OverLimits : goal.returns-in-OverLimits
-returns-in-OverLimits c = let a = c.args.text in
-    let y : Says a.now OverLimits = subst (Says a.now) (sym c.check_text-found.ensures ∙ c.in-OverLimits.is) (says a.now) in
-    limits_answered a.now c.args.out.now y.0 y.1.0 y.1.1
-
-pub returns-in-Fits : goal.returns-in-Fits
-returns-in-Fits c = let a = c.args.text in
-    let y : Says a.now Fits = subst (Says a.now) (sym c.check_text-found.ensures ∙ c.in-Fits.is) (says a.now) in
-    let q = (c.value-states.ensures ∙ ap (λ (k : ℕ). min k 129) (first_read a.now c.first_line-first.result c.first_line-first.ensures (omega (arith, c.if-text-first.false))).stated_is) in
-    fit_answered a.now _ _ _ _ (bounded_test (text_first_line a.now).states _ q) (record { places_room = omega (arith, c.pass_over-pass.auto.places, c.no_places-places.ensures); keys_room = omega (arith, c.pass_over-pass.auto.keys, c.no_keys-keys.ensures) }) c.pass_over-pass.ensures y _ q _ _ _ c.write_body.ensures
+pub returns : goal.returns
+returns c =
+    let h = c.in-Some.ensures in
+    let g = c.pass_over.new.gathered in
+    written c.args.text.now c.args.out.now _ h.1 c.in-Some.first h.0 _ _ g c.in-Some-pass_over.ensures _ c.value-states.ensures refl
+    (sym c.in_ok-check_text.ensures)
+    (subst (λ (n : ℕ). BodyWritten c.value-states.result n g.keys c.args.out.now c.write_body.result c.write_body.new.out) c.len.ensures
+    (subst (λ (ks : List ℕ). BodyWritten c.value-states.result c.len.result ks c.args.out.now c.write_body.result c.write_body.new.out) c.as_slice.ensures
+    c.write_body.ensures))

@@ -1,63 +1,51 @@
-use native.Mathlib.Omega.{arith}
-use mathlib.Core.Path.{refl, ◌∙◌}
-use Rattle.aut.proofs.Steps.FirstLines.{first_read}
-use Rattle.aut.proofs.Steps.Passing.{passing_start, passing_next, passed_failed, passed_end, passed_out}
+use Rattle.std.proofs.Common.{◌≡◌, ◌≤◌, ◌∙◌, Bool, ◌&&◌, length, sym, ap, rules}
+use Rattle.text.specs.Numerals.{decimal_value}
+use Rattle.sheet.proofs.Checks.Bools.{differ}
+use Rattle.aut.specs.Internal.Passing.{within}
+use Rattle.aut.proofs.Steps.Lines.{one_line}
+use Rattle.aut.proofs.Steps.Passing.{passing_start, unreadable, passing_added, passing_kept, passed}
 use Rattle.aut.proofs.pass.pass_over.Goals as goal
+use Rattle.aut.proofs.pass.pass_over.Goals.{then-few+then-pass+then-is_within_limits, else-few, else-few-via-then-few+then-pass+else-is_within_limits, else-few-via-then-few+else-pass, else-few-via-else-few}
 
-pub overflow_sub-digits : goal.overflow_sub-digits
-overflow_sub-digits c = omega (arith, c.requires.first_parts.0.states_order)
+pub loop-rest-init : goal.loop-rest-init
+loop-rest-init c = passing_start _ _ _ _ c.requires.nothing_yet.0 c.requires.nothing_yet.1
 
-pub loop-at-init : goal.loop-at-init
-loop-at-init c = let a = c.args in
-    let p = c.requires in
-    (passing_start a.text.now a.few _ _ _ (first_read a.text.now a.first p.first_parts.0 p.first_parts.1) p.first_parts.1 a.places.now a.sums.now a.hints.now a.keys.now p.few_value.1, refl, refl, refl, refl)
+pub returns-in_err-line : goal.returns-in_err-line
+returns-in_err-line c =
+    let some : 1 ≤ length c.loop-rest.rest.now = search rules in
+    rw c.from_residual.ensures
+    (unreadable c.args.text.now c.args.states.now c.args.few c.loop-rest.rest.now _ _ c.loop-rest.invariant some c.in_err-line.ensures)
 
-pub returns-then-text-line : goal.returns-then-text-line
-returns-then-text-line c = let l = c.loop-at in
+pub loop-rest-smaller : goal.loop-rest-smaller
+loop-rest-smaller c =
+    let some : 1 ≤ length c.loop-rest.rest.now = search rules in
+    (one_line c.loop-rest.rest.now some c.in_ok-line.ensures.1).2
+
+pub loop-rest-preserved : goal.loop-rest-preserved
+loop-rest-preserved c =
+    let l = c.loop-rest in
     let a = c.args in
-    let x = c.line_at-line in
-    passed_out a.text.now a.few l.places l.keys _
-    (passed_failed a.text.now a.few l.places l.sums l.hints l.keys l.at l.lines l.right l.held l.invariant.0 (omega arith) x.result x.ensures (omega arith))
-    (omega arith) (omega (arith, x.ensures.not_past)) (omega (arith, l.invariant.0.counted, x.ensures.from_order))
-
-pub line_below-requires : goal.line_below-requires
-line_below-requires c = let x = c.line_at-line in
-    let p = c.requires in
-    (record { from_within = (omega (arith, x.ensures.from_order), omega (arith, x.ensures.from_order)); to_within = (omega (arith, x.ensures.to_order), omega (arith, x.ensures.to_order)) }, omega (arith, p.first_parts.0.states_order))
-
-pub add_within-held-requires : goal.add_within-held-requires
-add_within-held-requires c = let l = c.loop-at in
-    let x = c.line_at-line in
-    record { numbers_within = (record { from_within = (omega (arith, x.ensures.from_order), omega (arith, x.ensures.from_order)); to_within = (omega (arith, x.ensures.to_order), omega (arith, x.ensures.to_order)) }, l.invariant.0.room); holds = (l.invariant.0.holds, l.invariant.0.rising) }
-
-pub overflow_add-lines : goal.overflow_add-lines
-overflow_add-lines c = omega (arith, c.loop-at.invariant.0.counted)
-
-pub loop-at-smaller : goal.loop-at-smaller
-loop-at-smaller c = omega (arith, c.line_at-line.ensures.from_order)
-
-pub loop-at-preserved : goal.loop-at-preserved
-loop-at-preserved c = let l = c.loop-at in
-    let a = c.args in
-    let p = c.requires in
-    let x = c.line_at-line in
-    let w = c.add_within-held in (
-      passing_next a.text.now a.few l.places l.sums l.hints l.keys l.at l.lines l.right l.held l.invariant.0 (omega (arith, c.loop-at-test.true)) x.result x.ensures
-          (omega (arith, c.if-text-line.false)) _ _ _ w.result _ _ _ (first_read a.text.now a.first p.first_parts.0 p.first_parts.1) p.few_value.0 _
-          (record {
-            places_room = omega (arith, w.auto.places, l.invariant.0.room.places_room);
-            sums_room = omega (arith, w.auto.sums, l.invariant.0.room.sums_room);
-            hints_room = omega (arith, w.auto.hints, l.invariant.0.room.hints_room);
-            keys_room = omega (arith, w.auto.keys, l.invariant.0.room.keys_room);
-          })
-          _ _ c.line_below.ensures _ c.both-right.ensures c.both.ensures w.ensures,
-      w.auto.places ∙ l.invariant.1,
-      w.auto.sums ∙ l.invariant.2,
-      w.auto.hints ∙ l.invariant.3,
-      w.auto.keys ∙ l.invariant.4,
-    )
+    let some : 1 ≤ length l.rest.now = search rules in
+    let e = c.in_ok-line.ensures in
+    let d = ap (λ (b : Bool). l.pass.below && b) c.is_line_below.ensures in
+    let kept =
+    passing_kept a.text.now a.states.now a.few l.rest.now l.pass l.gathered l.invariant some c.in_ok-line.left.now e.1 c.in_ok-line.line
+    e.0 c.requires.states_read.0 c.requires.states_read.1 _ d in
+    elim c.if-few.branch [
+      | then-few+then-pass+then-is_within_limits w ↦
+          rw (w.gathered-is, w.add.ensures)
+          (passing_added a.text.now a.states.now a.few l.rest.now l.pass l.gathered l.invariant some c.in_ok-line.left.now e.1
+          c.in_ok-line.line e.0 c.requires.states_read.0 c.requires.states_read.1 _ d w.if-pass.true w.if-few.true
+          (sym w.is_within_limits.ensures ∙ w.if-is_within_limits.true))
+      | else-few w ↦ rw w.gathered-is (elim w.else-few.branch [
+        | else-few-via-then-few+then-pass+else-is_within_limits v ↦
+            kept (λ b f i. differ (within l.gathered) i (sym v.is_within_limits.ensures ∙ v.if-is_within_limits.false))
+        | else-few-via-then-few+else-pass v ↦ kept (λ b f i. differ _ b v.if-pass.false)
+        | else-few-via-else-few v ↦ kept (λ b f i. differ a.few f v.if-few.false)
+      ])
+    ]
 
 pub returns : goal.returns
-returns c = let l = c.loop-at in
-    let a = c.args in
-    passed_end a.text.now a.few l.places l.sums l.hints l.keys l.at l.lines l.right l.held l.invariant.0 (omega arith)
+returns c =
+    let none : length c.loop-rest.rest.now ≡ 0 = search rules in
+    passed c.args.text.now (decimal_value c.args.states.now) c.args.few c.loop-rest.rest.now _ _ c.loop-rest.invariant none

@@ -4,7 +4,4 @@ use Rattle.closest.proofs.Traces.Backwards.{Filling}
 use Rattle.closest.proofs.tracing.put_way.Given as goal
 
 abbrev pub invariant-loop-left : goal.invariant-loop-left
-invariant-loop-left l = Filling l.plan l.state l.steps l.initial.out l.out l.at l.left
-
-abbrev pub decreases-loop-left : goal.decreases-loop-left
-decreases-loop-left l = l.left
+invariant-loop-left l = Filling l.plan l.fn.state.0 l.steps l.initial.out l.out l.at.0 l.left

@@ -1,5 +1,5 @@
 -- `judge::querying::judge_accepted` meets its contract.
-use Rattle.std.proofs.Common.{sym, refl, ap, ◌∙◌, arith}
+use Rattle.std.proofs.Common.{sym, ap, ◌∙◌, arith}
 use Rattle.sheet.specs.Plan.{state_count}
 use Rattle.judge.proofs.Steps.QueryAnswers.{answers_no_state, answers_loop}
 use Rattle.judge.proofs.querying.judge_accepted.Goals as goal
@@ -13,7 +13,7 @@ returns-then-state_count-state c = let counted = c in
 pub prepare-requires : goal.prepare-requires
 prepare-requires c = let counted = c in
     let start = counted in
-    (start.requires, refl, omega (arith, c.if-state_count-state.false, counted.state_count.ensures ∙ ap state_count counted.plan_body.ensures))
+    (start.requires, counted.index_of-index.ensures, omega (arith, c.if-state_count-state.false, counted.state_count.ensures ∙ ap state_count counted.plan_body.ensures))
 
 pub returns-then-not-prepare : goal.returns-then-not-prepare
 returns-then-not-prepare c = let prepared = c in

@@ -23,7 +23,7 @@ prepare_states-requires c =
     let counted = c in
     let start = counted in
     let is = counted.state_count.ensures ∙ ap state_count counted.plan_body.ensures in
-    list_asked start.args.sheet.now start.requires is c.mark_states.ensures (c.if-not-mark_states.false) c.prepare_rule.ensures
+    list_asked start.args.sheet.now start.requires is c.mark_states.ensures (c.if-not-mark_states.false) c.prepare_rule-index.ensures
 
 pub returns-then-not-prepare_states : goal.returns-then-not-prepare_states
 returns-then-not-prepare_states c =

@@ -1,12 +1,7 @@
--- `reference::table1::meetings` meets its contract. The measure is the number of actions left.
-use Prim.Native.Nat.{◌≤◌, ◌-◌}
-use mathlib.Core.Path.{◌≡◌}
-use lib.ListN.{length}
-use Rattle.reference.proofs.Evaluation.Passing.{MasksUpTo}
+-- The masks of the actions passed.
+use Rattle.std.proofs.Common.{◌≡◌, ℕ, ◌<◌, length, get_or}
+use Rattle.calculus.specs.MeetingMask.{meeting_mask}
 use Rattle.reference.proofs.table1.meetings.Given as goal
 
 abbrev pub invariant-loop-a : goal.invariant-loop-a
-invariant-loop-a l = (l.a ≤ l.count) × ((length l.masks ≡ 256) × MasksUpTo l.actions l.count l.a l.masks)
-
-abbrev pub decreases-loop-a : goal.decreases-loop-a
-decreases-loop-a l = l.count - l.a
+invariant-loop-a l = (length l.masks ≡ 256) × ((action : ℕ) → action < l.a → get_or l.masks action 0 ≡ meeting_mask l.count l.actions action)

@@ -1,9 +1,0 @@
--- `closest::tracing::put_lasts` meets its contract. Of the loop: the transitions from i on are passed.
-use Rattle.closest.proofs.Traces.Lasts.{Storing}
-use Rattle.closest.proofs.tracing.put_lasts.Given as goal
-
-abbrev pub invariant-loop-i : goal.invariant-loop-i
-invariant-loop-i l = Storing l.plan l.lasts l.i
-
-abbrev pub decreases-loop-i : goal.decreases-loop-i
-decreases-loop-i l = l.i
