@@ -1,7 +1,13 @@
 // Requests 12 and 13: a branch is proposed for a sheet, and added to one by a proposal.
 use crate::connection::{Connection, Stop};
 use branches::Proposal;
-use sheet::{Action, State, Transition};
+use sheet::{Action, Numbered, State, Transition};
+
+const NO_PROPOSAL: Proposal = Proposal {
+    insertion: 0,
+    length: 0,
+    tag: 0,
+};
 
 // A transition: from, action, to.
 fn read_branch(connection: &mut Connection) -> Result<Transition, Stop> {
@@ -29,7 +35,7 @@ pub(crate) fn answer_propose(connection: &mut Connection) -> Result<(), Stop> {
         insertion,
         length,
         tag,
-    } = proposed.proposal();
+    } = proposed.unwrap_or(NO_PROPOSAL);
     println!(connection.output;
         "propose {} {} {insertion} {length} {tag}",
         proposed.number(),
