@@ -1,8 +1,8 @@
--- `patterns::nodes::moved_node` meets its contract: the range or number that was matched says which case of `moved` holds.
+-- `patterns::nodes::moved` meets its contract: the range or number that was matched says which case of `moved` holds.
 use native.Mathlib.Omega.{arith}
 use mathlib.Core.Path.{sym}
 use Rattle.patterns.proofs.Steps.Moving.{moved_leaf, moved_pair, moved_modal, moved_variable, moved_binder}
-use Rattle.patterns.proofs.nodes.moved_node.Goals as goal
+use Rattle.patterns.proofs.nodes.moved.Goals as goal
 
 pub returns-in-6 : goal.returns-in-6
 returns-in-6 c = sym (moved_variable _ _ _ (omega arith))
