@@ -35,13 +35,12 @@ impl States {
         requires { count ≤ 64 }
         ensures { result ≡ 2 ^ count - 1 }
     {
-        States {
-            word: if count < 64 {
-                (1 << count) - 1
-            } else {
-                u64::MAX
-            },
-        }
+        let word = if count < 64 {
+            (1 << count) - 1
+        } else {
+            u64::MAX
+        };
+        States { word }
     }
 
     pub(crate) fn contains(self, s: State) -> bool
