@@ -14,13 +14,8 @@ pub(crate) const LONGEST_PLAN: usize = 6148;
 fn plan_head(plan: &[u8]) -> [u8; 4]
     ensures { result ≡ head_with plan.now }
 {
-    let count = transition_count(plan) as usize + 1;
-    [
-        state_count(plan),
-        action_count(plan),
-        (count % 256) as u8,
-        (count / 256 % 256) as u8,
-    ]
+    let [low, high, ..] = (usize::from(transition_count(plan)) + 1).to_le_bytes();
+    [state_count(plan), action_count(plan), low, high]
 }
 
 // The three bytes of a transition.
