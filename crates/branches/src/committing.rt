@@ -20,9 +20,8 @@ fn write_with(sheet: &[u8], plan: &[u8], out: &mut [u8]) -> Result<usize, Commit
     if out.len() < HEAD_LENGTH + plan.len() + actions.len() + rule.len() {
         return Err(CommitError::Refused(Refusal::OutputShort));
     }
-    let head = head_of(plan.len() as u16, actions.len() as u16, rule.len() as u16);
     let mut writer = Writer::new(out);
-    writer.put(&head);
+    writer.put(&head_of(plan.len() as u16, actions.len() as u16, rule.len() as u16));
     writer.put(plan);
     writer.put(actions);
     writer.put(rule);

@@ -31,13 +31,11 @@ pub(crate) fn insert(plan: &[u8], branch: Transition, place: usize, room: &mut [
     requires { Inserting plan.now place room.old }
     ensures { Puts (plan_with_at plan.now (labelled branch) place) result room.old room.new }
 {
-    let head = plan_head(plan);
-    let new = bytes_of(branch);
     let middle = 4 + 3 * place;
     let mut writer = Writer::new(room);
-    writer.put(&head);
+    writer.put(&plan_head(plan));
     writer.put(&plan[4..middle]);
-    writer.put(&new);
+    writer.put(&bytes_of(branch));
     writer.put(&plan[middle..]);
     writer.place
 }

@@ -1,9 +1,9 @@
 use Prim.Native.Nat.{ℕ}
 use native.Mathlib.Omega.{arith}
-use mathlib.Core.Path.{ap, ap₂, ◌∙◌}
+use mathlib.Core.Path.{ap}
 use borrow.Author.Rules.{rules}
-use Rattle.text.specs.Placing.{place_after, buffer_after}
 use lib.ListN.{length}
+use Rattle.text.proofs.Placing.{placed_first}
 use Rattle.branches.proofs.Steps.Committing.{no_room, put_whole}
 use Rattle.branches.proofs.committing.write_with.Goals as goal
 
@@ -21,15 +21,11 @@ pub overflow_cast-rule : goal.overflow_cast-rule
 overflow_cast-rule c = omega (arith, ap (length {A = ℕ}) c.actions_body-actions.ensures, ap (length {A = ℕ}) c.rule_body-rule.ensures, c.requires)
 
 pub returns : goal.returns
-returns c =
-    let a = c.args in
-    let head = c.head_of-head.result in
-    let put =
-    put_whole a.sheet.now a.plan.now a.out.now c.actions_body-actions.ensures c.rule_body-rule.ensures
-    c.if-out-plan.false c.head_of-head.ensures (
-      c.put.ensures.place ∙ ap₂ (place_after head) c.new-writer.ensures.place c.new-writer.ensures.out_after,
-      c.put.ensures.out_after ∙ ap₂ (buffer_after head) c.new-writer.ensures.place c.new-writer.ensures.out_after,
-    )
-    (c.put-2.ensures.place, c.put-2.ensures.out_after) (c.put-3.ensures.place, c.put-3.ensures.out_after)
+returns c = let a = c.args in
+    let written = put_whole a.sheet.now a.plan.now a.out.now c.actions_body-actions.ensures c.rule_body-rule.ensures
+    c.if-out-plan.false c.head_of.ensures
+    (placed_first c.new-writer.ensures.place c.new-writer.ensures.out_after (c.put.ensures.place, c.put.ensures.out_after))
+    (c.put-2.ensures.place, c.put-2.ensures.out_after)
+    (c.put-3.ensures.place, c.put-3.ensures.out_after)
     (c.put-4.ensures.place, c.put-4.ensures.out_after) in
-    (put.0, search (rules, put.1))
+    (written.0, search (rules, written.1))
