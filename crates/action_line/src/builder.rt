@@ -27,7 +27,7 @@ pub(crate) struct Pending {
 }
 
 // The parentheses open, the operators that wait, and the body with the entries made.
-#[derive(Clone, Copy)]
+#[derive(Drop)]
 pub(crate) struct BodyBuilder {
     pub depth: usize,
     pub waiting: [Pending; MOST_ENTRIES],

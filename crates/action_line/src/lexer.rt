@@ -85,7 +85,7 @@ fn token_of(word: &[u8]) -> Token
 }
 
 // The tokens of the bytes that are left.
-#[derive(Clone, Copy)]
+#[derive(Drop)]
 pub(crate) struct Tokens<'a> {
     pub rest: &'a [u8],
 }

@@ -3,6 +3,7 @@ ghost use Rattle.std.specs.Prelude.{◌≡◌};
 ghost use Rattle.calculus.specs.Internal.GuardContracts.{Since, GuardedSince};
 ghost use Rattle.calculus.specs.GuardCheck.{Guards};
 
+use sheet::kinds::NodeKind;
 use sheet::reader::{check, rule_body};
 use sheet::rule::{bound_before, node};
 use sheet::{Fields, Node, Refusal, Variable};
@@ -14,13 +15,17 @@ fn guarded_since(rule: &[u8], n: Node, first: Node) -> bool
     ensures { GuardedSince rule.now n.0 first.0 result }
 {
     let Fields { kind, x, y } = node(rule, n);
+    let Ok(kind) = NodeKind::try_from(kind) else {
+        return true;
+    };
     match kind {
-        0..=1 => true,
-        2..=3 => guarded_since(rule, Node(x), first) && guarded_since(rule, Node(y), first),
-        4..=5 => guarded_since(rule, Node(y), n),
-        6 => bound_before(rule, Variable(x), first),
-        7..=8 => guarded_since(rule, Node(y), first),
-        _ => true,
+        NodeKind::False | NodeKind::True => true,
+        NodeKind::Or | NodeKind::And => {
+            guarded_since(rule, Node(x), first) && guarded_since(rule, Node(y), first)
+        }
+        NodeKind::Diamond | NodeKind::Box => guarded_since(rule, Node(y), n),
+        NodeKind::Variable => bound_before(rule, Variable(x), first),
+        NodeKind::Least | NodeKind::Greatest => guarded_since(rule, Node(y), first),
     }
 }
 

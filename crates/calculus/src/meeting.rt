@@ -5,6 +5,7 @@ ghost use Rattle.calculus.specs.Meaning.{meets};
 ghost use Rattle.calculus.specs.Decode.{action_formula};
 
 use sheet::actions::{entry, entry_count};
+use sheet::kinds::EntryKind;
 use sheet::{Action, Fields};
 
 // Whether the mask has the bit of an entry.
@@ -20,16 +21,18 @@ fn entry_meets(actions: &[u8], e: u8, count: u8, action: Action, mask: u32) -> b
     ensures { result ≡ meets count (action_formula actions.now e) action.0 }
 {
     let Fields { kind, x, y } = entry(actions, e);
+    let Ok(kind) = EntryKind::try_from(kind) else {
+        return false;
+    };
     match kind {
-        0 => false,
-        1 => action.0 < count,
-        2 => action.0 == x,
-        3 => has_bit(mask, x) || has_bit(mask, y),
-        4 => has_bit(mask, x) && has_bit(mask, y),
+        EntryKind::False => false,
+        EntryKind::True => action.0 < count,
+        EntryKind::Action => action.0 == x,
+        EntryKind::Or => has_bit(mask, x) || has_bit(mask, y),
+        EntryKind::And => has_bit(mask, x) && has_bit(mask, y),
         // "Not" is taken among the count actions.
-        5 => action.0 < count && !has_bit(mask, x),
-        6 => (x..=y).contains(&action.0),
-        _ => false,
+        EntryKind::Not => action.0 < count && !has_bit(mask, x),
+        EntryKind::Range => (x..=y).contains(&action.0),
     }
 }
 

@@ -25,7 +25,6 @@ use Rattle.judge.specs.Cells.{cell, cell_bytes, table_bytes, cells_in}
 use Rattle.judge.specs.Clearing.{clear_check, cleared_of, table_cleared}
 use Rattle.judge.specs.LargestTable.{largest_table}
 use Rattle.judge.specs.Querying.{count_right}
-use Rattle.judge.specs.declared.Cleared.TheVariants as cleared
 use Rattle.judge.proofs.Cells.CellLayout.{solvable}
 use Rattle.judge.proofs.Cells.CountLayout.{cells_byte, cells_length}
 use Rattle.judge.proofs.Lists.JustCleared.{cleared_length, cleared_below}
@@ -33,11 +32,10 @@ use Rattle.judge.proofs.Lists.SheetLists.{Takes, takes_valid, Fine, zero_fine, q
 use Rattle.judge.proofs.Statements.Demand3.{table1}
 use Rattle.judge.proofs.Statements.LargestTable.{every_table_fits}
 use Rattle.judge.specs.InTurn.{holds_by}
-use Rattle.closest.specs.Finding.{Found, everywhere, fails_at, answer_found, answer_closest, closest_of, searched, closest_found, reported_closest, table_searched}
+use Rattle.closest.specs.Finding.{ClosestAnswer, Found, everywhere, fails_at, answer_found, answer_closest, closest_of, searched, closest_found, reported_closest, table_searched}
 use Rattle.closest.specs.ClosestCorrect.{ClosestCorrect}
 use Rattle.closest.specs.Steps.{WayOf}
-use Rattle.closest.specs.declared.Closest.{Closest}
-use Rattle.closest.specs.declared.Closest.TheVariants.{Refused}
+use Rattle.judge.specs.declared.QueryError.TheVariants.{Refused}
 use Rattle.closest.proofs.Queries.Answers.{way_taken, closest-is}
 use Rattle.closest.proofs.Statements.ClosestCorrect.{closest_correct}
 use Rattle.closest.proofs.Traces.Ways.{way_leads, way_length}
@@ -68,7 +66,7 @@ module _ (s : List ℕ) (accepted : sheet_check s ≡ Ok tt) where
   abbrev table : List ℕ
   table = table_cleared s own_table
 
-  done : cleared_of s own_table ≡ cleared.Done
+  done : cleared_of s own_table ≡ Ok tt
   unfolding cleared_of clear_check
   done = rw (accepted, le-leb (table_bytes s) (length own_table) fits) refl
 
@@ -87,7 +85,7 @@ module _ (s : List ℕ) (accepted : sheet_check s ≡ Ok tt) where
 
   -- a loop can be reached from state 0
   module _ (e : loop_free plan 0 ≡ false) where
-    finds_loop : closest_of s table ≡ Refused Loop
+    finds_loop : closest_of s table ≡ Err (Refused Loop)
     unfolding closest_of
     finds_loop =
         ap (λ (c : Check). answer_closest (closest_found s table) (visits_of (searched s table)) c (count_right s table))
@@ -125,9 +123,9 @@ module _ (s : List ℕ) (accepted : sheet_check s ≡ Ok tt) where
         let n = visits_of (searched s table) in
         subst (RightAnswer s) (sym is)
         (by_found n (closest_found s table) (says plan bodies.plan_kept (holds_by s table))
-        (subst (λ (r : Closest). ClosestCorrect s table (reported_closest r) (table_searched s table)) is
+        (subst (λ (r : ClosestAnswer). ClosestCorrect s table (reported_closest r) (table_searched s table)) is
         (closest_correct.accepted s table (closest_of s table) (table_searched s table) (refl, (refl, refl))
-        (ap (λ (r : Closest). (reported_closest r).number) is ∙ numbered (closest_found s table) n))))
+        (ap (λ (r : ClosestAnswer). (reported_closest r).number) is ∙ numbered (closest_found s table) n))))
       where
         numbered : (f : Found) (n : ℕ) → (reported_closest (answer_found f n)).number ≡ 0
         numbered everywhere n = refl
@@ -147,7 +145,7 @@ program_correct s = go (sheet_check s) refl
 pub program_refusals : ProgramRefusals
 program_refusals s = go (program_correct s)
   where
-    go : {r : Closest} → RightAnswer s r → ((reported_closest r).number ≤ 10) ⊎ ((reported_closest r).number ≡ 12)
+    go : {r : ClosestAnswer} → RightAnswer s r → ((reported_closest r).number ≤ 10) ⊎ ((reported_closest r).number ≡ 12)
     go (RightAnswer.unreadable e) = inl (low_refusal s e)
     go (RightAnswer.loops a l) = inr refl
     go (RightAnswer.holds_everywhere j h c) = inl (omega arith)

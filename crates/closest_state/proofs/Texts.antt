@@ -1,6 +1,6 @@
 -- The text of each answer, and that of a state that the program finds as it is put: the first line, and then those of the way.
 use Prim.Native.Nat.{ℕ, ◌*◌, ◌≤◌}
-use mathlib.Core.Path.{◌≡◌, refl, sym, ap, ap₂, ◌∙◌}
+use mathlib.Core.Path.{◌≡◌, refl, sym, ap, ◌∙◌}
 use mathlib.Core.List.{List, ◌++◌}
 use native.Mathlib.Omega.{arith}
 use lib.ListN.{length, drop, length-append}
@@ -9,15 +9,17 @@ use Rattle.text.specs.RefusalLine.{refusal_line}
 use Rattle.text.proofs.Placing.{starting_append, starting_length}
 use Rattle.text.proofs.RefusalLines.{refusal_fits}
 use Rattle.sheet.specs.Contents.{plan_body}
-use Rattle.sheet.specs.declared.Refusal.{Refusal}
 use Rattle.sheet.specs.declared.State.{State}
-use Rattle.closest.specs.Finding.{reported_closest}
-use Rattle.closest.specs.Tracing.{way_to, Traces}
-use Rattle.closest.specs.declared.Closest.{Closest}
-use Rattle.closest.specs.declared.Closest.TheVariants.{Everywhere, Fails, WrongCount, Refused}
-use Rattle.closest.specs.declared.Traced.{Traced}
+use Rattle.std.specs.Prelude.{Option, None, Some, Ok, Err}
+use Rattle.judge.specs.Querying.{error_number, error_place}
+use Rattle.judge.specs.declared.QueryError.{QueryError}
+use Rattle.judge.specs.declared.QueryError.TheVariants.{WrongCount, Refused}
+use Rattle.closest.specs.Finding.{ClosestAnswer}
+use Rattle.closest.specs.declared.Failing.{Failing}
+use Rattle.closest.specs.Tracing.{Traced, way_to, Traces}
 use Rattle.closest.proofs.Traces.Ways.{way_length, way_written}
 use Rattle.closest_state.specs.Text.{fails_line, holds_line, way_lines, text_of, text_length}
+use Rattle.closest_state.specs.ProgramCorrect.{holds_after, fails_after}
 use Rattle.closest_state.specs.Program.{program_of, program_text, RefusedAlike, EveryTextFits}
 use Rattle.closest_state.specs.Internal.Lines.{lines_of, LinesRequire, PutsAt}
 use Rattle.closest_state.proofs.Answers.{program_refuses, found_counted, found_near, way_left}
@@ -29,22 +31,21 @@ unfolding program_text text_of
 text_refuses s x e = ap (text_of s) (program_refuses s x e)
 
 -- the text of an answer of the program
-module _ (s : List ℕ) {r : Closest} (h : r ≡ program_of s) where
-  pub holds_text : {visits : ℕ} → r ≡ Everywhere visits → holds_line visits ≡ program_text s
+module _ (s : List ℕ) {r : ClosestAnswer} (h : r ≡ program_of s) where
+  pub holds_text : {visits : ℕ} → r ≡ holds_after visits → holds_line visits ≡ program_text s
   unfolding program_text text_of
   holds_text e = ap (text_of s) (sym e ∙ h)
 
-  module _ {number place : ℕ} (n : number ≡ (reported_closest r).number) (p : place ≡ (reported_closest r).place) where
-    pub wrong_count_text : r ≡ WrongCount → refusal_line number place ≡ program_text s
-    unfolding program_text text_of
-    wrong_count_text e = ap₂ refusal_line (n ∙ ap (λ (q : Closest). (reported_closest q).number) e) (p ∙ ap (λ (q : Closest). (reported_closest q).place) e) ∙ ap (text_of s) (sym e ∙ h)
-
-    pub refused_text : {x : Refusal} → r ≡ Refused x → refusal_line number place ≡ program_text s
-    unfolding program_text text_of
-    refused_text e = ap₂ refusal_line (n ∙ ap (λ (q : Closest). (reported_closest q).number) e) (p ∙ ap (λ (q : Closest). (reported_closest q).place) e) ∙ ap (text_of s) (sym e ∙ h)
+  pub refused_text : {x : QueryError} → r ≡ Err x → refusal_line (error_number x) (error_place x) ≡ program_text s
+  unfolding program_text text_of
+  refused_text {x} e = by_error x ∙ ap (text_of s) (sym e ∙ h)
+    where
+      by_error : (x : QueryError) → refusal_line (error_number x) (error_place x) ≡ text_of s (Err x)
+      by_error WrongCount = refl
+      by_error (Refused y) = refl
 
 -- of a state that the program finds
-module _ (s : List ℕ) {state : State} {n visits : ℕ} (h : Fails state n visits ≡ program_of s) where
+module _ (s : List ℕ) {state : State} {n visits : ℕ} (h : fails_after state n visits ≡ program_of s) where
   abbrev first : List ℕ
   first = fails_line state.0 n visits
 
@@ -102,11 +103,10 @@ module _ (s : List ℕ) {state : State} {n visits : ℕ} (h : Fails state n visi
 pub every_text_fits : EveryTextFits
 every_text_fits s = go (program_of s) refl
   where
-    go : (r : Closest) → r ≡ program_of s → length (program_text s) ≤ text_length
-    go (Fails state n visits) h = rw (found_text s h) at (found_fits s h)
-    go (Everywhere visits) h = omega (arith, ap length (holds_text s h refl), holds_length visits)
-    go WrongCount h = omega (arith, ap length (wrong_count_text s h refl refl refl), refusal_fits 35 0)
-    go (Refused x) h =
-        let n = (reported_closest (Refused x)).number in
-        let p = (reported_closest (Refused x)).place in
-        omega (arith, ap length (refused_text s h {number = n} {place = p} refl refl {x = x} refl), refusal_fits n p)
+    by_first : (f : Option Failing) (n : ℕ) → Ok (record { first = f; visits = n }) ≡ program_of s → length (program_text s) ≤ text_length
+    by_first (Some f) n h = rw (found_text s h) at (found_fits s h)
+    by_first None n h = omega (arith, ap length (holds_text s h refl), holds_length n)
+
+    go : (r : ClosestAnswer) → r ≡ program_of s → length (program_text s) ≤ text_length
+    go (Ok c) h = by_first c.first c.visits h
+    go (Err x) h = omega (arith, ap length (refused_text s h refl), refusal_fits (error_number x) (error_place x))

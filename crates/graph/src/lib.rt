@@ -4,26 +4,33 @@
 pub mod loops;
 pub mod searching;
 
-use sheet::Refusal;
+ghost use Rattle.graph.specs.Index.{Blank};
 
-// The index that a search fills: its layout is in specs/Index.antt.
-pub type Index = [u32; INDEX_SIZE];
+// How many values a byte has: a plan of any bytes is searched, so there is a place for each that may name a state or an action.
+pub const BYTE_VALUES: usize = 256;
 
-pub const INDEX_SIZE: usize = 416;
+// What a search stores.
+#[derive(Clone, Copy)]
+pub struct Index {
+    // Where the transitions of each state begin; those of a state end where those of the next begin.
+    pub firsts: [u16; BYTE_VALUES + 1],
+    // The actions that they have.
+    pub actions: [bool; BYTE_VALUES],
+}
+
+impl Index {
+    // With nothing stored.
+    pub fn new() -> Index
+        ensures { Blank result }
+    {
+        Index {
+            firsts: [0; BYTE_VALUES + 1],
+            actions: [false; BYTE_VALUES],
+        }
+    }
+}
 
 // The states that a search from several starts from: those whose entry is not 0.
 pub type Starts = [u8; MOST_STATES];
 
 pub const MOST_STATES: usize = 128;
-
-pub const FIRSTS_AT: usize = 16;
-
-pub const ACTIONS_AT: usize = 160;
-
-// Whether a loop can be reached from a state.
-#[derive(Clone, Copy)]
-pub enum LoopSearch {
-    Free,
-    Found,
-    Refused(Refusal),
-}

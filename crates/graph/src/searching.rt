@@ -1,28 +1,22 @@
 // The search of what can be reached from a state, or from several: depth first, with a colour for each state. It looks for a loop, and stores
 // where the transitions of each state that it comes to begin and end, and which actions they have. It is the search of specs/Search.antt, of
 // any bytes.
-ghost use Rattle.std.specs.Prelude.{◌≡◌, ◌&&◌, ◌+◌, ◌*◌, ◌<◌, ◌≤◌, length, get_or, set, eqb, ltb};
+ghost use Rattle.std.specs.Prelude.{◌≡◌, ◌+◌, ◌*◌, ◌<◌, ◌≤◌, length, get_or, ltb};
 ghost use Rattle.sheet.specs.Plan.{origin, label, target};
-ghost use Rattle.graph.specs.Index.{index_size};
 ghost use Rattle.graph.specs.Search.{first_by_halving, found_none, index_left, explored, explored_all};
 ghost use Rattle.graph.specs.Internal.Searching.{TransitionsCounted, Visiting, Visited};
 
-use crate::{ACTIONS_AT, FIRSTS_AT, Index, MOST_STATES, Starts};
+use crate::{BYTE_VALUES, Index, Starts};
 use sheet::plan::transition_count;
 use sheet::{Action, State};
 
-// A colour for each number that a byte can give a state. A state is not seen (0), open or done.
-const COLOURS: usize = 256;
-
+// A state is not seen (0), open or done.
 const OPEN: u8 = 1;
 
 const DONE: u8 = 2;
 
-fn wide(x: u8) -> usize
-    ensures { (result ≡ x) × (result < 256) }
-{
-    x as usize
-}
+// A colour for each number that a byte can give a state.
+type Colours = [u8; BYTE_VALUES];
 
 fn origin_at(plan: &[u8], i: usize) -> State
     requires { 6 + 3 * i < length plan.now }
@@ -50,14 +44,8 @@ fn count_held(plan: &[u8]) -> usize
     ensures { TransitionsCounted plan.now result }
 {
     let stated = transition_count(plan) as usize;
-    if plan.len() < 4 {
-        return 0;
-    }
-    let whole = (plan.len() - 4) / 3;
-    if whole < stated {
-        return whole;
-    }
-    stated
+    let whole = plan.len().saturating_sub(4) / 3;
+    whole.min(stated)
 }
 
 // Where the transitions of a state or of a later one begin: they stand in the order of their origins. count is their number.
@@ -65,94 +53,64 @@ fn first_from(plan: &[u8], count: usize, state: State) -> usize
     requires { TransitionsCounted plan.now count }
     ensures { (result ≡ first_by_halving plan.now state.0) × (result ≤ count) }
 {
-    let least = state.0;
     let mut low: usize = 0;
     let mut high = count;
+    // A while loop: it halves what lies between.
     while low < high {
         let middle = (low + high) / 2;
-        let from = origin_at(plan, middle);
-        if from.0 < least {
+        if origin_at(plan, middle).0 < state.0 {
             low = middle + 1;
-            continue;
+        } else {
+            high = middle;
         }
-        high = middle;
     }
     low
 }
 
-// Whether transition i is there and leaves a state.
-fn is_from(plan: &[u8], count: usize, i: usize, state: State) -> bool
-    requires { TransitionsCounted plan.now count }
-    ensures { result ≡ (ltb i count && eqb (origin plan.now i) state.0) }
-{
-    if i < count {
-        let from = origin_at(plan, i);
-        return from.0 == state.0;
-    }
-    false
-}
-
-fn is_done(colours: &[u8; COLOURS], state: State) -> bool
+fn is_done(colours: &Colours, state: State) -> bool
     ensures { result ≡ ltb 1 (get_or colours.now state.0 0) }
 {
-    let at = state.0 as usize;
-    OPEN < colours[at]
+    OPEN < colours[state.0 as usize]
 }
 
-fn put(index: &mut Index, at: usize, n: usize)
-    requires { (at < index_size) × (n < 65536) }
-    ensures { index.new ≡ set index.old at n }
-{
-    index[at] = n as u32;
-}
-
-// Whether the search from a state that is not done meets no open state. count is the number
-// of transitions.
-fn visit(
-    plan: &[u8],
-    count: usize,
-    index: &mut Index,
-    colours: &mut [u8; COLOURS],
-    state: State,
-) -> bool
+// Whether the search from a state that is not done meets no open state. count is the number of transitions.
+fn visit(plan: &[u8], count: usize, index: &mut Index, colours: &mut Colours, state: State) -> bool
     requires { Visiting plan.now count colours.old state.0 }
     ensures { Visited plan.now index.old colours.old index.new colours.new state.0 result }
 {
     let at = state.0 as usize;
-    let colour = colours[at];
-    if colour == OPEN {
+    if colours[at] == OPEN {
         return false;
     }
     colours[at] = OPEN;
-    let mut i = first_from(plan, count, state);
-    put(index, FIRSTS_AT + at, i);
-    while is_from(plan, count, i, state) {
-        let action = label_at(plan, i);
-        put(index, ACTIONS_AT + wide(action.0), 1);
-        let next = target_at(plan, i);
-        if is_done(colours, next) {
-            i += 1;
-            continue;
+    let first = first_from(plan, count, state);
+    index.firsts[at] = first as u16;
+    let mut end = first;
+    for i in first..count {
+        if origin_at(plan, i).0 != state.0 {
+            break;
         }
-        if !visit(plan, count, index, colours, next) {
+        let action = label_at(plan, i);
+        index.actions[action.0 as usize] = true;
+        let next = target_at(plan, i);
+        if !is_done(colours, next) && !visit(plan, count, index, colours, next) {
             return false;
         }
-        i += 1;
+        end = i + 1;
     }
-    put(index, FIRSTS_AT + (at + 1), i);
+    index.firsts[at + 1] = end as u16;
     colours[at] = DONE;
     true
 }
 
-// Whether the search from a state found no loop. Of a well-formed plan: whether none can be reached; where none can, the index then says,
-// from FIRSTS_AT on, where the transitions of each state that can be reached begin and end, and has, from ACTIONS_AT on, a 1 for each of their
-// actions.
+// Whether the search from a state found no loop. Of a well-formed plan: whether none can be reached; where none can, the index then says
+// where the transitions of each state that can be reached begin and end, and has each of their actions.
 pub fn explore(plan: &[u8], index: &mut Index, state: State) -> bool
     ensures value { result ≡ found_none (explored plan.now index.old state.0) }
     ensures index_after { index.new ≡ index_left (explored plan.now index.old state.0) }
 {
     let count = count_held(plan);
-    let mut colours = [0u8; COLOURS];
+    let mut colours = [0u8; BYTE_VALUES];
     visit(plan, count, index, &mut colours, state)
 }
 
@@ -163,21 +121,14 @@ pub fn explore_all(plan: &[u8], index: &mut Index, starts: &Starts) -> bool
     ensures index_after { index.new ≡ index_left (explored_all plan.now index.old starts.now) }
 {
     let count = count_held(plan);
-    let mut colours = [0u8; COLOURS];
-    let mut s: usize = 0;
-    while s < MOST_STATES {
-        if starts[s] == 0 {
-            s += 1;
-            continue;
-        }
-        if is_done(&colours, State(s as u8)) {
-            s += 1;
+    let mut colours = [0u8; BYTE_VALUES];
+    for (s, start) in starts.iter().enumerate() {
+        if *start == 0 || is_done(&colours, State(s as u8)) {
             continue;
         }
         if !visit(plan, count, index, &mut colours, State(s as u8)) {
             return false;
         }
-        s += 1;
     }
     true
 }

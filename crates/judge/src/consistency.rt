@@ -8,14 +8,13 @@ ghost use Rattle.judge.specs.Internal.Deciding.{DecideRequires, FollowRequires};
 ghost use Rattle.judge.specs.Internal.Auditing.{successors_hold, row_follows, mark_told, cell_passes, node_passes, state_passes, table_passes, shown_after, ShownToFollow, CellRequires, StateRequires, CellsRequires};
 
 use crate::index::{
-    BINDERS_AT, ENDS_AT, MARKS_AT, NODES_AT, binder_of, kind_of, label_of, mask_of, number,
-    target_of, transitions_begin, transitions_end, x_of, y_of,
+    Index, binder_of, kind_of, label_of, mask_of, target_of, transitions_begin, transitions_end,
+    x_of, y_of,
 };
 use crate::marks::{is_outer, opening};
 use crate::table::cell_position;
-use crate::widen::wide;
 use calculus::meeting::has_bit;
-use graph::{Index, Starts};
+use graph::Starts;
 use sheet::plan::state_count;
 use sheet::reader::plan_body;
 use sheet::{Node, State, Variable};
@@ -42,22 +41,15 @@ fn successors_hold(
     requires { FollowRequires sheet.now index.now table.now node.0 state.0 × (filled b ≡ true) }
     ensures { result ≡ successors_hold sheet.now table.now node.0 state.0 one b }
 {
-    let n = node.0;
-    let entry = x_of(sheet, index, Node(n));
-    let child = y_of(sheet, index, Node(n));
-    let from = state.0;
-    let end = transitions_end(index, State(from));
-    let mut i = transitions_begin(index, State(from));
-    while i < end {
+    let entry = x_of(sheet, index, node);
+    let child = Node(y_of(sheet, index, node));
+    for i in transitions_begin(index, state)..transitions_end(index, state) {
         if has_bit(mask_of(index, label_of(sheet, i)), entry) {
-            let at = cell_position(index, 0, Node(child), target_of(sheet, i));
+            let at = cell_position(index, 0, child, target_of(sheet, i));
             if byte_is(table, at, b) == one {
                 return one;
             }
-            i += 1;
-            continue;
         }
-        i += 1;
     }
     !one
 }
@@ -116,12 +108,8 @@ fn mark_allowed(index: &Index, mark: u8, node: Node) -> bool
     if mark == 0 {
         return true;
     }
-    let k = wide(mark - 1);
-    let n = wide(node.0);
-    if number(index, BINDERS_AT + k) < n {
-        return n < number(index, ENDS_AT + k);
-    }
-    false
+    let k = mark as usize - 1;
+    index.binders[k] < node.0 && node.0 < index.ends[k]
 }
 
 // Whether a cell that is filled with byte b has a mark that its node may have and follows. shown, where it is not 0, is a byte already found
@@ -139,27 +127,15 @@ fn cell_passes(
     requires { CellRequires sheet.now index.now table.now (cell mark node.0 state.0) b × (b ≢ 0) × ShownToFollow sheet.now table.now (cell mark node.0 state.0) shown }
     ensures { result ≡ cell_passes sheet.now table.now (cell mark node.0 state.0) }
 {
-    let n = node.0;
-    if mark_allowed(index, mark, Node(n)) {
-        if b == shown {
-            return true;
-        }
-        return row_follows(sheet, index, table, mark, Node(n), state, b);
-    }
-    false
+    mark_allowed(index, mark, node)
+        && (b == shown || row_follows(sheet, index, table, mark, node, state, b))
 }
 
 // What is shown to follow under every mark once a cell with byte b has passed: the row of a "some" or an "every" is the same under each.
 fn shown_after(kind: u8, b: u8, shown: u8) -> u8
     ensures { result ≡ shown_after kind b shown }
 {
-    if kind < 4 {
-        return shown;
-    }
-    if 5 < kind {
-        return shown;
-    }
-    b
+    if kind < 4 || 5 < kind { shown } else { b }
 }
 
 // Whether each cell of a node and a state passes, under every mark.
@@ -167,23 +143,17 @@ fn node_passes(sheet: &[u8], index: &Index, table: &[u8], node: Node, state: Sta
     requires { StateRequires sheet.now index.now table.now state.0 × (node.0 < node_count (rule_body sheet.now)) }
     ensures { result ≡ node_passes sheet.now table.now state.0 node.0 }
 {
-    let marks = number(index, MARKS_AT) as u8;
-    let n = node.0;
-    let s = state.0;
-    let start = cell_position(index, 0, Node(n), State(s));
-    let mut shown: u8 = 0;
-    let mut m: u8 = 0;
-    while m < marks {
-        let b = table[start + wide(m)];
+    let start = cell_position(index, 0, node, state);
+    let mut shown = 0;
+    for m in 0..index.marks {
+        let b = table[start + m as usize];
         if b == 0 {
-            m += 1;
             continue;
         }
-        if !cell_passes(sheet, index, table, m, Node(n), State(s), b, shown) {
+        if !cell_passes(sheet, index, table, m, node, state, b, shown) {
             return false;
         }
-        shown = shown_after(kind_of(sheet, index, Node(n)), b, shown);
-        m += 1;
+        shown = shown_after(kind_of(sheet, index, node), b, shown);
     }
     true
 }
@@ -193,14 +163,10 @@ fn state_passes(sheet: &[u8], index: &Index, table: &[u8], state: State) -> bool
     requires { StateRequires sheet.now index.now table.now state.0 }
     ensures { result ≡ state_passes sheet.now table.now state.0 }
 {
-    let nodes = number(index, NODES_AT) as u8;
-    let s = state.0;
-    let mut n: u8 = 0;
-    while n < nodes {
-        if !node_passes(sheet, index, table, Node(n), State(s)) {
+    for n in 0..index.nodes {
+        if !node_passes(sheet, index, table, Node(n), state) {
             return false;
         }
-        n += 1;
     }
     true
 }
@@ -210,18 +176,10 @@ pub(crate) fn table_passes(sheet: &[u8], index: &Index, table: &[u8], starts: &S
     requires { CellsRequires sheet.now index.now table.now starts.now }
     ensures { result ≡ table_passes sheet.now table.now }
 {
-    let states = state_count(plan_body(sheet));
-    let mut s: u8 = 0;
-    while s < states {
-        let at = wide(s);
-        if starts[at] == 0 {
-            s += 1;
-            continue;
-        }
-        if !state_passes(sheet, index, table, State(s)) {
+    for s in 0..state_count(plan_body(sheet)) {
+        if starts[s as usize] != 0 && !state_passes(sheet, index, table, State(s)) {
             return false;
         }
-        s += 1;
     }
     true
 }

@@ -6,14 +6,13 @@ ghost use Rattle.judge.specs.Cells.{cell};
 ghost use Rattle.judge.specs.Internal.Deciding.{DecideRequires, Decided, FollowRequires, Followed};
 
 use crate::index::{
-    binder_of, kind_of, label_of, mask_of, target_of, transitions_begin, transitions_end, x_of,
-    y_of,
+    Index, binder_of, kind_of, label_of, mask_of, target_of, transitions_begin, transitions_end,
+    x_of, y_of,
 };
 use crate::marks::{is_outer, opening};
 use crate::packed::{add_visits, decides, packed_constant};
 use crate::table::{cell_position, fill_cell, known_verdict};
 use calculus::meeting::has_bit;
-use graph::Index;
 use sheet::{Node, State, Variable};
 
 // Decides a cell: looks it up, or decides its row in order and fills it.
@@ -84,24 +83,17 @@ fn follow(sheet: &[u8], index: &Index, table: &mut [u8], node: Node, state: Stat
     requires { FollowRequires sheet.now index.now table.old node.0 state.0 × (or ≡ (node_kind (rule_body sheet.now) node.0 == 4)) }
     ensures { Followed sheet.now node.0 state.0 table.old result table.new }
 {
-    let n = node.0;
-    let entry = x_of(sheet, index, Node(n));
-    let child = y_of(sheet, index, Node(n));
-    let from = state.0;
-    let end = transitions_end(index, State(from));
-    let mut i = transitions_begin(index, State(from));
-    let mut sum: u32 = 0;
-    while i < end {
+    let entry = x_of(sheet, index, node);
+    let child = Node(y_of(sheet, index, node));
+    let mut sum = 0;
+    for i in transitions_begin(index, state)..transitions_end(index, state) {
         if has_bit(mask_of(index, label_of(sheet, i)), entry) {
-            let w = decide(sheet, index, table, 0, Node(child), target_of(sheet, i));
-            if decides(or, w) {
-                return add_visits(sum, w);
-            }
+            let w = decide(sheet, index, table, 0, child, target_of(sheet, i));
             sum = add_visits(sum, w);
-            i += 1;
-            continue;
+            if decides(or, w) {
+                return sum;
+            }
         }
-        i += 1;
     }
     add_visits(sum, packed_constant(!or))
 }

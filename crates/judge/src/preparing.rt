@@ -1,111 +1,111 @@
 // Preparing: the numbers that are worked out once for a query or an audit.
-ghost use Rattle.std.specs.Prelude.{◌≡◌, ◌<◌, true, length};
+ghost use Rattle.std.specs.Prelude.{◌≡◌, ◌<◌, true, Ok};
 ghost use Rattle.sheet.specs.Contents.{plan_body};
 ghost use Rattle.sheet.specs.Plan.{state_count};
 ghost use Rattle.sheet.specs.Reading.{sheet_check};
-ghost use Rattle.std.specs.Prelude.{Ok};
 ghost use Rattle.graph.specs.LoopTest.{loop_free};
-ghost use Rattle.graph.specs.Index.{index_size};
 ghost use Rattle.judge.specs.Internal.Index.{Prepared};
 ghost use Rattle.judge.specs.Internal.Preparing.{Headed, BindersAsked, Binders, EndsAsked, Ends, Masks, RuleTold, StatesAsked, StatesTold};
 
-use crate::index::{BINDERS_AT, ENDS_AT, MARKS_AT, NODES_AT, RULE_AT, binder_of, number};
-use crate::widen::wide;
+use crate::MOST_BINDERS;
+use crate::index::Index;
 use calculus::meeting::meeting;
 use graph::searching::{explore, explore_all};
-use graph::{ACTIONS_AT, Index, Starts};
+use graph::{BYTE_VALUES, Starts};
 use sheet::plan::action_count;
 use sheet::reader::{actions_body, plan_body, rule_body};
 use sheet::rule::{binder_count, is_binder, node_count, subtree_end};
-use sheet::{Action, HEAD_LENGTH, Node, State, Variable};
-
-// Where the rule lies, and how many nodes and marks it has.
-fn put_head(sheet: &[u8], index: &mut Index)
-    requires { (sheet_check sheet.now ≡ Ok tt) × (length index.old ≡ index_size) }
-    ensures { Headed sheet.now index.new }
-{
-    let rule = rule_body(sheet);
-    index[RULE_AT] = (HEAD_LENGTH + plan_body(sheet).len() + actions_body(sheet).len()) as u32;
-    index[NODES_AT] = node_count(rule) as u32;
-    index[MARKS_AT] = binder_count(rule) as u32 + 1;
-}
+use sheet::{Action, HEAD_LENGTH, Node, State};
 
 // The nodes of the B binders.
-fn put_binders(rule: &[u8], index: &mut Index)
-    requires { BindersAsked rule.now index.old }
-    ensures { Binders rule.now index.old index.new }
+fn binders_of(rule: &[u8]) -> [u8; MOST_BINDERS]
+    requires { BindersAsked rule.now }
+    ensures { Binders rule.now result }
 {
-    let binders = number(index, MARKS_AT) - 1;
-    let mut k: usize = 0;
-    let mut n: u8 = 0;
-    while k < binders {
+    let mut binders = [0; MOST_BINDERS];
+    let mut k = 0;
+    for n in 0..node_count(rule) {
         if is_binder(rule, Node(n)) {
-            index[BINDERS_AT + k] = n as u32;
+            binders[k] = n;
             k += 1;
-            n += 1;
-            continue;
         }
-        n += 1;
+    }
+    binders
+}
+
+// Where the subtrees of the B binders end.
+fn ends_of(rule: &[u8], binders: &[u8; MOST_BINDERS]) -> [u8; MOST_BINDERS]
+    requires { EndsAsked rule.now binders.now }
+    ensures { Ends rule.now result }
+{
+    let mut ends = [0; MOST_BINDERS];
+    for k in 0..binder_count(rule) as usize {
+        ends[k] = subtree_end(rule, Node(binders[k])) as u8;
+    }
+    ends
+}
+
+// Which formulas each action that a search noted meets.
+fn put_masks(
+    plan: &[u8],
+    actions: &[u8],
+    noted: &[bool; BYTE_VALUES],
+    masks: &mut [u32; BYTE_VALUES],
+)
+    ensures { Masks plan.now actions.now noted.now masks.new }
+{
+    let count = action_count(plan);
+    for a in 0..count {
+        if noted[a as usize] {
+            masks[a as usize] = meeting(actions, count, Action(a));
+        }
     }
 }
 
-// Which formulas each noted action meets, in place of the 1 that the search left.
-fn put_masks(plan: &[u8], actions: &[u8], index: &mut Index)
-    requires { length index.old ≡ index_size }
-    ensures { Masks plan.now actions.now index.old index.new }
+// What the index says of the rule of an accepted sheet, but for the ends; nothing of its plan yet.
+pub(crate) fn index_of(sheet: &[u8]) -> Index
+    requires { sheet_check sheet.now ≡ Ok tt }
+    ensures { Headed sheet.now result }
 {
-    let count = action_count(plan);
-    let mut a: u8 = 0;
-    while a < count {
-        let at = ACTIONS_AT + wide(a);
-        if index[at] == 1 {
-            index[at] = meeting(actions, count, Action(a));
-            a += 1;
-            continue;
-        }
-        a += 1;
+    let rule = rule_body(sheet);
+    Index {
+        rule_at: HEAD_LENGTH + plan_body(sheet).len() + actions_body(sheet).len(),
+        nodes: node_count(rule),
+        marks: binder_count(rule) + 1,
+        binders: binders_of(rule),
+        ends: [0; MOST_BINDERS],
+        plan: graph::Index::new(),
+        masks: [0; BYTE_VALUES],
     }
 }
 
 // Whether no loop can be reached from a state of an accepted sheet; where none can, the index then holds what a query of the state works with.
 pub(crate) fn prepare(sheet: &[u8], index: &mut Index, state: State) -> bool
-    requires { (sheet_check sheet.now ≡ Ok tt) × (length index.old ≡ index_size) × (state.0 < state_count (plan_body sheet.now)) }
+    requires { (sheet_check sheet.now ≡ Ok tt) × Headed sheet.now index.old × (state.0 < state_count (plan_body sheet.now)) }
     ensures value { result ≡ loop_free (plan_body sheet.now) state.0 }
     ensures prepared { result ≡ true → Prepared sheet.now index.new state.0 }
 {
     let plan = plan_body(sheet);
-    put_head(sheet, index);
-    put_binders(rule_body(sheet), index);
-    if !explore(plan, index, state) {
+    if !explore(plan, &mut index.plan, state) {
         return false;
     }
-    put_masks(plan, actions_body(sheet), index);
+    put_masks(
+        plan,
+        actions_body(sheet),
+        &index.plan.actions,
+        &mut index.masks,
+    );
     true
 }
 
-// Where the subtrees of the B binders end.
-fn put_ends(rule: &[u8], index: &mut Index)
-    requires { EndsAsked rule.now index.old }
-    ensures { Ends rule.now index.old index.new }
-{
-    let binders = number(index, MARKS_AT) - 1;
-    let mut k: usize = 0;
-    while k < binders {
-        let end = subtree_end(rule, binder_of(index, Variable(k as u8)));
-        index[ENDS_AT + k] = end as u32;
-        k += 1;
-    }
-}
-
 // For an audit: what the index says of the rule of an accepted sheet.
-pub(crate) fn prepare_rule(sheet: &[u8], index: &mut Index)
-    requires { (sheet_check sheet.now ≡ Ok tt) × (length index.old ≡ index_size) }
-    ensures { RuleTold sheet.now index.new }
+pub(crate) fn prepare_rule(sheet: &[u8]) -> Index
+    requires { sheet_check sheet.now ≡ Ok tt }
+    ensures { RuleTold sheet.now result }
 {
-    let rule = rule_body(sheet);
-    put_head(sheet, index);
-    put_binders(rule, index);
-    put_ends(rule, index);
+    let mut index = index_of(sheet);
+    index.ends = ends_of(rule_body(sheet), &index.binders);
+    index
 }
 
 // For an audit: whether no loop can be reached from any of some states; where none can, the index then holds what their rows are read with.
@@ -114,9 +114,14 @@ pub(crate) fn prepare_states(sheet: &[u8], index: &mut Index, starts: &Starts) -
     ensures { StatesTold sheet.now starts.now index.new result }
 {
     let plan = plan_body(sheet);
-    if !explore_all(plan, index, starts) {
+    if !explore_all(plan, &mut index.plan, starts) {
         return false;
     }
-    put_masks(plan, actions_body(sheet), index);
+    put_masks(
+        plan,
+        actions_body(sheet),
+        &index.plan.actions,
+        &mut index.masks,
+    );
     true
 }

@@ -1,6 +1,6 @@
 -- The call of document 02 (c): "Translate a pattern, with p the sheet's rule, into a rule body." What it answers and what it leaves in the
 -- output buffer, for every list of bytes as sheet and as pattern, and every output.
-use Rattle.std.specs.Prelude.{ℕ, ◌≡◌, Bool, ◌&&◌, List, [], ◌++◌, length, drop, leb, Err, Ok}
+use Rattle.std.specs.Prelude.{ℕ, ◌≡◌, Bool, ◌&&◌, List, [], ◌++◌, length, drop, leb, Result, Ok, Err}
 use Rattle.sheet.specs.Bytes.{pick}
 use Rattle.sheet.specs.Refusals.{number_of, place_of}
 use Rattle.sheet.specs.Contents.{actions_body, rule_body}
@@ -11,8 +11,12 @@ use Rattle.sheet.specs.declared.Refusal.TheVariants.{OutputShort}
 use Rattle.calculus.specs.Trees.{Tree, tree_size, binders, encode, tree_of}
 use Rattle.patterns.specs.Patterns.{Pattern, Reading, malformed, readable, reading_of}
 use Rattle.patterns.specs.Translation.{translation}
-use Rattle.patterns.specs.declared.Translated.{Translated}
-use Rattle.patterns.specs.declared.Translated.TheVariants.{Wrote, Malformed, TooLarge, Refused}
+use Rattle.patterns.specs.declared.TranslateError.{TranslateError}
+use Rattle.patterns.specs.declared.TranslateError.TheVariants.{Malformed, TooLarge, Refused}
+
+-- the length of the rule body that it wrote, or why it turned its input down
+abbrev pub Translated : Type 0
+Translated = Result ℕ TranslateError
 
 -- what the pattern R becomes with the rule of the sheet s
 abbrev pub tree_for : List ℕ → Bool → Pattern → Tree
@@ -25,17 +29,17 @@ small_enough t = leb (tree_size t) 64 && leb (binders t) 6
 -- The refusals of a pattern that is readable: a result that is too large; then, since 31 comes "before 22", an output that has no room for
 -- its rule body. Else the length of the body.
 abbrev pub answer_tree : Tree → ℕ → Translated
-answer_tree t room = pick (small_enough t) (pick (leb (length (encode t)) room) (Wrote (length (encode t))) (Refused OutputShort)) TooLarge
+answer_tree t room = pick (small_enough t) (pick (leb (length (encode t)) room) (Ok (length (encode t))) (Err (Refused OutputShort))) (Err TooLarge)
 
 -- "It refuses a malformed pattern .. with 30 and a result over 64 nodes or 6 binders with 31, in that order"
 abbrev pub answer_reading : List ℕ → Reading → ℕ → Translated
-answer_reading s malformed room = Malformed
+answer_reading s malformed room = Err Malformed
 answer_reading s (readable every R) room = answer_tree (tree_for s every R) room
 
 -- "after the sheet's refusals"
 abbrev pub answer_sheet : List ℕ → List ℕ → Check → ℕ → Translated
 answer_sheet s pattern (Ok tt) room = answer_reading s (reading_of (entry_count (actions_body s)) pattern) room
-answer_sheet s pattern (Err r) room = Refused r
+answer_sheet s pattern (Err r) room = Err (Refused r)
 
 -- what the call answers for every sheet, pattern and output of so many bytes
 unfoldable pub translated_of : List ℕ → List ℕ → ℕ → Translated
@@ -48,10 +52,8 @@ body_of s (readable every R) = encode (tree_for s every R)
 
 -- the rule body at the front of the output; "output bytes past what is written stay unchanged"; a refused call "changes no buffer"
 abbrev pub leaves : List ℕ → List ℕ → Translated → List ℕ
-leaves body out (Wrote n) = body ++ drop n out
-leaves body out Malformed = out
-leaves body out TooLarge = out
-leaves body out (Refused r) = out
+leaves body out (Ok n) = body ++ drop n out
+leaves body out (Err x) = out
 
 -- the output buffer after the call
 unfoldable pub output_after : List ℕ → List ℕ → List ℕ → List ℕ
@@ -66,10 +68,10 @@ pub record TranslationReport : Type 0 where
 
 -- "An accepted call gives number 0 and place 0."; on a refusal its number and place, and "any further result number 0"
 abbrev pub reported_translation : Translated → TranslationReport
-reported_translation (Wrote n) = record { number = 0; place = 0; size = n }
-reported_translation Malformed = record { number = 30; place = 0; size = 0 }
-reported_translation TooLarge = record { number = 31; place = 0; size = 0 }
-reported_translation (Refused r) = record { number = number_of r; place = place_of r; size = 0 }
+reported_translation (Ok n) = record { number = 0; place = 0; size = n }
+reported_translation (Err Malformed) = record { number = 30; place = 0; size = 0 }
+reported_translation (Err TooLarge) = record { number = 31; place = 0; size = 0 }
+reported_translation (Err (Refused r)) = record { number = number_of r; place = place_of r; size = 0 }
 
 -- what the call reports for every sheet, pattern and output
 abbrev pub translation_report_of : List ℕ → List ℕ → ℕ → TranslationReport

@@ -13,8 +13,7 @@ use Rattle.calculus.specs.Trees.{tree_size, binders, encode}
 use Rattle.calculus.specs.Verdict.{Verdict}
 use Rattle.patterns.specs.Patterns.{Pattern, pattern_bytes, EntriesBelow}
 use Rattle.patterns.specs.Runs.{Sentence}
-use Rattle.patterns.specs.Translating.{tree_for, reported_translation, Translates}
-use Rattle.patterns.specs.declared.Translated.{Translated}
+use Rattle.patterns.specs.Translating.{Translated, tree_for, reported_translation, Translates}
 
 -- on the accepted sheet s the pattern says: some run, or every run, matching R
 pub record Says (s pattern : List ℕ) (every : Bool) (R : Pattern) : Type 0 where

@@ -4,14 +4,12 @@
 // bounded: each part is gone through once for each copy of it in the result, which is made up to its 64th node at most.
 #![tactic(auto)]
 
+mod draft;
 mod nodes;
 mod pattern_check;
 mod putting;
 mod second_parts;
 pub mod translating;
-
-ghost use Rattle.std.specs.Prelude.{◌≡◌};
-ghost use Rattle.patterns.specs.Translating.{reported_translation};
 
 use sheet::{Numbered, Refusal};
 
@@ -24,61 +22,64 @@ const LONGEST_BODY: usize = 193;
 
 const LONGEST_PATTERN: usize = 189;
 
-// A rule body that is being made, and a number for each place of a pattern.
-pub(crate) type Body = [u8; LONGEST_BODY];
-
+// A number for each place of a pattern.
 pub(crate) type Places = [u8; LONGEST_PATTERN];
 
-// How much of the rule is made: its nodes and binders so far; or it becomes larger than a rule may be.
+// The rule becomes larger than a rule may be.
 #[derive(Clone, Copy)]
-pub(crate) enum Progress {
-    Made(u8, u8),
-    Exceeded,
-}
+pub(crate) struct Oversize;
 
-// What the translation answers: the length of the rule body that it wrote, or why it turned its input down.
-#[derive(Clone, Copy)]
-pub enum Translated {
-    Wrote(usize),
+// Why the translation turns its input down.
+#[derive(Clone, Copy, Debug, PartialEq, Eq)]
+pub enum TranslateError {
     Malformed,
     TooLarge,
     Refused(Refusal),
 }
 
-impl Translated {
-    // Its number: 0, 30, 31 or that of the refusal.
-    pub fn number(self) -> u8
-        ensures { result ≡ (reported_translation self).number }
-    {
+impl From<Oversize> for TranslateError {
+    ghost use Rattle.std.specs.Prelude.{◌≡◌};
+    ghost use Rattle.patterns.specs.declared.TranslateError.TheVariants.{TooLarge};
+
+    ghost from_gives = { λ _ e. e ≡ TooLarge };
+
+    fn from(_x: Oversize) -> TranslateError {
+        TranslateError::TooLarge
+    }
+}
+
+impl From<Refusal> for TranslateError {
+    ghost use Rattle.std.specs.Prelude.{◌≡◌};
+    ghost use Rattle.patterns.specs.declared.TranslateError.TheVariants.{Refused};
+
+    ghost from_gives = { λ x e. e ≡ Refused x };
+
+    fn from(x: Refusal) -> TranslateError {
+        TranslateError::Refused(x)
+    }
+}
+
+// Its number is 30, 31 or that of the refusal; a refusal alone names a place.
+impl Numbered for TranslateError {
+    ghost use Rattle.std.specs.Prelude.{Err};
+    ghost use Rattle.patterns.specs.Translating.{reported_translation};
+
+    ghost number = { λ e. (reported_translation (Err e)).number };
+
+    ghost place = { λ e. (reported_translation (Err e)).place };
+
+    fn number(&self) -> u8 {
         match self {
-            Translated::Wrote(_) => 0,
-            Translated::Malformed => 30,
-            Translated::TooLarge => 31,
-            Translated::Refused(x) => x.number(),
+            TranslateError::Malformed => 30,
+            TranslateError::TooLarge => 31,
+            TranslateError::Refused(x) => x.number(),
         }
     }
 
-    // The place of the refusal, or 0.
-    pub fn place(self) -> u16
-        ensures { result ≡ (reported_translation self).place }
-    {
+    fn place(&self) -> u16 {
         match self {
-            Translated::Wrote(_) => 0,
-            Translated::Malformed => 0,
-            Translated::TooLarge => 0,
-            Translated::Refused(x) => x.place(),
-        }
-    }
-
-    // The length of the rule body written, or 0.
-    pub fn length(self) -> usize
-        ensures { result ≡ (reported_translation self).size }
-    {
-        match self {
-            Translated::Wrote(n) => n,
-            Translated::Malformed => 0,
-            Translated::TooLarge => 0,
-            Translated::Refused(_) => 0,
+            TranslateError::Refused(x) => x.place(),
+            _ => 0,
         }
     }
 }

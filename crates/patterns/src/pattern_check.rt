@@ -7,39 +7,36 @@ ghost use Rattle.patterns.specs.Internal.Passing.{is_readable};
 pub(crate) fn is_readable(pattern: &[u8], entries: u8) -> bool
     ensures { result ≡ is_readable (reading_of entries pattern.now) }
 {
-    if pattern.len() < 1 {
+    let Some((every, parts)) = pattern.split_first() else {
+        return false;
+    };
+    if 1 < *every {
         return false;
     }
-    if 1 < pattern[0] {
-        return false;
-    }
+    let mut rest = parts;
     let mut missing: usize = 1;
-    let mut at: usize = 1;
-    while at < pattern.len() {
+    while let Some((op, behind)) = rest.split_first() {
         if missing == 0 {
             return false;
         }
-        let op = pattern[at];
-        if op == 0 {
-            if pattern.len() - at < 2 {
-                return false;
+        match *op {
+            0 => {
+                let Some((entry, behind)) = behind.split_first() else {
+                    return false;
+                };
+                if entries <= *entry {
+                    return false;
+                }
+                missing -= 1;
+                rest = behind;
             }
-            if entries <= pattern[at + 1] {
-                return false;
+            1 | 2 => {
+                missing += 1;
+                rest = behind;
             }
-            missing -= 1;
-            at += 2;
-            continue;
+            3 => rest = behind,
+            _ => return false,
         }
-        if op < 3 {
-            missing += 1;
-            at += 1;
-            continue;
-        }
-        if 3 < op {
-            return false;
-        }
-        at += 1;
     }
     missing == 0
 }

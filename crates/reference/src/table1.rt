@@ -7,6 +7,7 @@ ghost use Rattle.reference.specs.Internal.Evaluating.{ActionMasks, Preimage, Eva
 
 use crate::sets::{Context, States};
 use calculus::meeting::{has_bit, meeting};
+use sheet::kinds::NodeKind;
 use sheet::plan::{transition, transition_count};
 use sheet::reader::{plan_body, rule_body};
 use sheet::rule::node;
@@ -62,20 +63,21 @@ impl<'a> Judge<'a> {
     {
         let rule = rule_body(self.sheet);
         let Fields { kind, x, y } = node(rule, n);
+        let Ok(kind) = NodeKind::try_from(kind) else {
+            return States::none();
+        };
         match kind {
-            // F: no state. T: all.
-            0 => States::none(),
-            1 => self.full,
-            // or: the union. and: the intersection.
-            2 => self.evaluate(Node(x), context) | self.evaluate(Node(y), context),
-            3 => self.evaluate(Node(x), context) & self.evaluate(Node(y), context),
-            // some: a transition leads into the child's meaning. every: no transition leads out of it.
-            4 => self.some(x, self.evaluate(Node(y), context)),
-            5 => self.full ^ self.some(x, self.full ^ self.evaluate(Node(y), context)),
-            // variable: its set.
-            6 => context.set_of(Variable(x)),
-            // least: its image is added until nothing is new.
-            7 => loop {
+            NodeKind::False => States::none(),
+            NodeKind::True => self.full,
+            NodeKind::Or => self.evaluate(Node(x), context) | self.evaluate(Node(y), context),
+            NodeKind::And => self.evaluate(Node(x), context) & self.evaluate(Node(y), context),
+            // A transition leads into the child's meaning.
+            NodeKind::Diamond => self.some(x, self.evaluate(Node(y), context)),
+            // No transition leads out of it.
+            NodeKind::Box => self.full ^ self.some(x, self.full ^ self.evaluate(Node(y), context)),
+            NodeKind::Variable => context.set_of(Variable(x)),
+            // Its image is added until nothing is new.
+            NodeKind::Least => loop {
                 let image = self.evaluate(Node(y), context);
                 let states = context.set_of(Variable(x));
                 let next = states | image;
@@ -83,10 +85,10 @@ impl<'a> Judge<'a> {
                     return states;
                 }
                 context.put(Variable(x), next);
-                context.restart(rule, Node(y), 8, self.full);
+                context.restart(rule, Node(y), NodeKind::Greatest, self.full);
             },
-            // greatest: what its image lacks is taken away until nothing is.
-            8 => loop {
+            // What its image lacks is taken away until nothing is.
+            NodeKind::Greatest => loop {
                 let image = self.evaluate(Node(y), context);
                 let states = context.set_of(Variable(x));
                 let next = states & image;
@@ -94,9 +96,8 @@ impl<'a> Judge<'a> {
                     return states;
                 }
                 context.put(Variable(x), next);
-                context.restart(rule, Node(y), 7, States::none());
+                context.restart(rule, Node(y), NodeKind::Least, States::none());
             },
-            _ => States::none(),
         }
     }
 }

@@ -8,3 +8,4 @@ pub mod Sheet
 pub mod Taken
 pub mod Writing
 pub mod Bodies
+pub mod Kinds

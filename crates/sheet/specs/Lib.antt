@@ -2,6 +2,7 @@ pub mod Bytes
 pub mod Contents
 pub mod Plan
 pub mod Actions
+pub mod KindNumbers
 pub mod Kinds
 pub mod Rule
 pub mod WellFormed

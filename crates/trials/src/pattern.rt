@@ -6,12 +6,6 @@ pub(crate) fn answer(connection: &mut Connection) -> Result<(), Stop> {
     let pattern = connection.read_blob()?;
     let mut out = connection.read_buffer()?;
     let length = patterns::translating::translate(&sheet, &pattern, &mut out);
-    println!(
-        connection.output;
-        "pattern {} {} {}",
-        length.number(),
-        length.place(),
-        length.length()
-    )?;
+    connection.write_answer("pattern", length)?;
     connection.write_bytes("out", &out)
 }

@@ -1,12 +1,10 @@
 -- A loop is answered exactly for a state of a well-formed plan from which one can be reached.
 use Prim.Native.Nat.{ℕ, ◌<◌}
-use mathlib.Core.Bool.{Bool, true, false}
+use mathlib.Core.Bool.{Bool, true, false, not}
 use mathlib.Core.List.{List}
 use mathlib.Core.Path.{◌≡◌, refl}
-use native.Mathlib.Omega.{arith}
 use lib.Dec.{ltb}
 use borrow.Author.Tests.{ltb-true, lt-ltb}
-use Rattle.sheet.specs.Bytes.{pick}
 use Rattle.sheet.specs.Plan.{state_count}
 use Rattle.sheet.specs.Reading.{plan_check}
 use Rattle.sheet.specs.Refusals.{require, and_then}
@@ -17,12 +15,10 @@ use Rattle.std.specs.Prelude.{Err, Ok}
 use Rattle.sheet.specs.Refusals.{Check}
 use Rattle.sheet.proofs.Acceptance.Plan.{plan_iff}
 use Rattle.rows.proofs.Tables.Among.{false_if}
-use Rattle.graph.specs.LoopSearch.{loop_search_check, answer_loop_search, loop_search_of, LoopFoundExactly}
+use Rattle.graph.specs.LoopSearch.{LoopSearch, loop_search_check, answer_loop_search, loop_search_of, LoopFoundExactly}
 use Rattle.graph.specs.Loops.{LoopReachable}
 use Rattle.graph.specs.LoopTest.{loop_free}
 use Rattle.graph.specs.Successors.{successors}
-use Rattle.graph.specs.declared.LoopSearch.{LoopSearch}
-use Rattle.graph.specs.declared.LoopSearch.TheVariants.{Free, Found, Refused}
 use Rattle.graph.proofs.Looptest.LoopFree.{free_exactly_at, loop_reachable}
 
 module _ (p : List ℕ) (state : ℕ) where
@@ -44,17 +40,16 @@ module _ (p : List ℕ) (state : ℕ) where
 
   -- the answer without a refusal
   abbrev answer_of : Bool → LoopSearch
-  answer_of free = pick free Free Found
+  answer_of free = Ok (not free)
 
   same_answer : (a b : Bool) → answer_of a ≡ answer_of b → a ≡ b
   same_answer true true e = refl
-  same_answer true false e = absurd (let z : ◌≡◌ {A = ℕ} 0 1 = cc in omega arith)
-  same_answer false true e = absurd (let z : ◌≡◌ {A = ℕ} 0 1 = cc in omega arith)
+  same_answer true false e = cc
+  same_answer false true e = cc
   same_answer false false e = refl
 
-  not_refused : (x : Refusal) (b : Bool) → Refused x ≡ answer_of b → ⊥
-  not_refused x true e = let z : ◌≡◌ {A = ℕ} 0 1 = cc in omega arith
-  not_refused x false e = let z : ◌≡◌ {A = ℕ} 0 1 = cc in omega arith
+  not_refused : (x : Refusal) (b : Bool) → Err x ≡ answer_of b → ⊥
+  not_refused x b e = cc
 
   reached : (free : Bool) → loop_search_of p state ≡ answer_of free → Reached free
   unfolding loop_search_of loop_search_check

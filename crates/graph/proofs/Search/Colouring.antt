@@ -8,6 +8,7 @@ use native.Mathlib.Decide.{ℕ_discrete}
 use native.Mathlib.Nat.{le_of_suc-le-suc, not-suc-le-zero}
 use lib.ListN.{length, get_or, set, replicate}
 use lib.Seq.{get_or-set_same, get_or-set_other}
+use Rattle.graph.specs.declared.Index.{Index}
 use Rattle.graph.specs.Internal.Searching.{unseen, DoneState, Coloured}
 use Rattle.graph.proofs.Search.Retaining.{retains_self, done_on}
 
@@ -67,7 +68,7 @@ module _ (l : List ℕ) (s c : ℕ) (h : s < length l) where
         | no q ↦ inr (q, sym (get_or-set_other l s u c 0 q) ∙ e)
       ]
 
-  pub coloured_set : {p index : List ℕ} → Coloured p index l → ((v : ℕ) → 1 < get_or l v 0 → 1 < get_or (set l s c) v 0)
+  pub coloured_set : {p : List ℕ} {index : Index} → Coloured p index l → ((v : ℕ) → 1 < get_or l v 0 → 1 < get_or (set l s c) v 0)
       → (1 < c → DoneState p index (set l s c) s) → Coloured p index (set l s c)
   coloured_set {p} {index} old keeps new = record { done = λ u m. go u m (recoloured u (get_or (set l s c) u 0) refl) }
     where

@@ -7,7 +7,9 @@ use native.Mathlib.Omega.{arith}
 use native.Mathlib.Decide.{dec_lt}
 use lib.ListN.{length}
 use lib.Dec.{ltb}
-use borrow.Author.Tests.{ltb-false, lt-ltb, le-ltb}
+use borrow.Author.Tests.{ltb-true, ltb-false, lt-ltb, le-ltb}
+use Rattle.std.proofs.Math.Nat.{min-eq_left, min-eq_right}
+use Rattle.std.specs.Prelude.{min}
 use Rattle.sheet.specs.Bytes.{pick}
 use Rattle.sheet.specs.Plan.{transition_count, origin}
 use Rattle.sheet.specs.WellFormed.{WellFormedPlan}
@@ -27,25 +29,18 @@ module _ (p : List ℕ) where
       go true e l = omega arith
       go false e l = omega (arith, ltb-false (whole_in p) (transition_count p) e)
 
-  pub held_whole : (whole : ℕ) → whole ≡ whole_in p → whole < transition_count p → whole ≡ held p
+  -- T, or as many as the bytes have
+  pub held_least : min (whole_in p) (transition_count p) ≡ held p
   unfolding held
-  held_whole whole e h = rw (lt-ltb (whole_in p) (transition_count p) (omega arith)) e
-
-  pub held_stated : transition_count p ≤ whole_in p → transition_count p ≡ held p
-  unfolding held
-  held_stated h = rw (le-ltb (whole_in p) (transition_count p) h)
-
-  pub held_short : length p < 4 → 0 ≡ held p
-  unfolding held
-  held_short h = go (ltb (whole_in p) (transition_count p)) refl
+  held_least = go (ltb (whole_in p) (transition_count p)) refl
     where
-      go : (b : Bool) → ltb (whole_in p) (transition_count p) ≡ b → 0 ≡ pick b (whole_in p) (transition_count p)
-      go true e = omega arith
-      go false e = omega (arith, ltb-false (whole_in p) (transition_count p) e)
+      go : (b : Bool) → ltb (whole_in p) (transition_count p) ≡ b → min (whole_in p) (transition_count p) ≡ pick b (whole_in p) (transition_count p)
+      go true e = min-eq_left (omega (arith, ltb-true (whole_in p) (transition_count p) e))
+      go false e = min-eq_right (ltb-false (whole_in p) (transition_count p) e)
 
   -- all of a well-formed plan
   pub held_all : WellFormedPlan p → held p ≡ transition_count p
-  held_all kept = sym (held_stated (omega (arith, kept.exact)))
+  held_all kept = sym held_least ∙ min-eq_right (omega (arith, kept.exact))
 
 -- ---- the steps of halving
 

@@ -1,25 +1,25 @@
 -- What the code of the search shows, of any bytes: its loop over the transitions of a state is `scan`, and its recursion `visit`.
 use Prim.Native.Nat.{ℕ, zero, suc, ◌+◌, ◌-◌, ◌<◌, ◌≤◌}
-use mathlib.Core.Bool.{Bool, true, false, ◌&&◌, true≢false}
+use mathlib.Core.Bool.{Bool, true, false}
 use mathlib.Core.List.{List}
-use mathlib.Core.Path.{◌≡◌, refl, sym, ap, ap₂, ◌∙◌}
+use mathlib.Core.Path.{◌≡◌, refl, sym, ap, ◌∙◌}
 use native.Mathlib.Omega.{arith}
 use native.Mathlib.Decide.{dec_lt}
 use native.Mathlib.Nat.{not-suc-le-zero}
 use lib.ListN.{length, get_or, set, replicate, length-set}
-use lib.Dec.{eqb, ltb}
 use borrow.Author.Tests.{lt-ltb, le-ltb, eq-eqb, ne_eqb}
 use Rattle.sheet.specs.Plan.{origin, label, target}
-use Rattle.graph.specs.Index.{firsts_at, actions_at}
+use Rattle.graph.specs.declared.Index.{Index}
+use Rattle.graph.specs.Index.{with_first, with_action}
 use Rattle.graph.specs.Search.{held, first_by_halving, Outcome, outcome, found_none, index_left, go_on, leave, scan, enter, step, visit, colour_count, explored}
 use Rattle.graph.specs.Internal.Searching.{unseen, TransitionsCounted, Visiting, Visited}
 use Rattle.graph.proofs.Search.Colouring.{colourless, all_unseen, unseen_set, unseen_falls}
 
 -- ---- the equations of `scan` and `visit`
 
-module _ (p : List ℕ) (rec : ℕ → List ℕ → List ℕ → Outcome) (s i : ℕ) (index colours : List ℕ) where
-  abbrev noted : List ℕ
-  noted = set index (actions_at + label p i) 1
+module _ (p : List ℕ) (rec : ℕ → Index → List ℕ → Outcome) (s i : ℕ) (index : Index) (colours : List ℕ) where
+  abbrev noted : Index
+  noted = with_action index (label p i)
 
   pub scan_none : held p ≤ i → scan p rec s (held p - i) i index colours ≡ leave s i index colours
   unfolding scan
@@ -46,7 +46,7 @@ module _ (p : List ℕ) (rec : ℕ → List ℕ → List ℕ → Outcome) (s i :
       unfolding scan
       scan_target d = rw (one_less, eq-eqb (origin p i) s e, le-ltb 1 (get_or colours (target p i) 0) d)
 
-module _ (p : List ℕ) (f s : ℕ) (index colours : List ℕ) where
+module _ (p : List ℕ) (f s : ℕ) (index : Index) (colours : List ℕ) where
   pub visit_open : get_or colours s 0 ≡ 1 → visit p (suc f) s index colours ≡ outcome false index colours
   unfolding visit step
   visit_open e = rw (eq-eqb (get_or colours s 0) 1 e)
@@ -58,37 +58,49 @@ module _ (p : List ℕ) (f s : ℕ) (index colours : List ℕ) where
 -- ---- what the code shows
 
 -- what is left to scan from transition i on, f states deep
-abbrev rest : List ℕ → ℕ → ℕ → ℕ → List ℕ → List ℕ → Outcome
+abbrev rest : List ℕ → ℕ → ℕ → ℕ → Index → List ℕ → Outcome
 rest p s f i index colours = scan p (λ t x c. visit p f t x c) s (held p - i) i index colours
 
 -- the search of s has begun: `index₀` is the index then
-pub record Begun (p : List ℕ) (s : ℕ) (index before index₀ : List ℕ) : Type 0 where
+pub record Begun (p : List ℕ) (s : ℕ) (index : Index) (before : List ℕ) (index₀ : Index) : Type 0 where
   pub inside : s < length before
   pub unseen_yet : get_or before s 0 ≡ 0
-  pub is_begun : index₀ ≡ set index (firsts_at + s) (first_by_halving p s)
+  pub is_begun : index₀ ≡ with_first index s (first_by_halving p s)
+
+pub begins : (p : List ℕ) (s : ℕ) (index : Index) (before : List ℕ) (i : ℕ) → s < length before → get_or before s 0 ≤ 1
+    → (get_or before s 0 ≡ 1 → ⊥) → i ≡ first_by_halving p s → Begun p s index before (with_first index s i)
+begins p s index before i inside low n e = record {
+  inside = inside;
+  unseen_yet = omega arith;
+  is_begun = ap (λ (k : ℕ). with_first index s k) e;
+}
 
 -- of the loop: what is left to scan leaves what the whole does
-pub record Scanning (p : List ℕ) (s : ℕ) (index₀ colours₀ : List ℕ) (i : ℕ) (index colours : List ℕ) : Type 0 where
+pub record Scanning (p : List ℕ) (s : ℕ) (index₀ : Index) (colours₀ : List ℕ) (i : ℕ) (index : Index) (colours : List ℕ) : Type 0 where
   pub before_end : i ≤ held p
   pub same_length : length colours ≡ length colours₀
   pub none_forgotten : unseen colours ≤ unseen colours₀
   pub left : (f : ℕ) → unseen colours₀ < f → rest p s f (first_by_halving p s) index₀ colours₀ ≡ rest p s f i index colours
 
 -- transition i is one of the state's, and `noted` the index with its action
-pub record Turn (p : List ℕ) (s i : ℕ) (index noted : List ℕ) : Type 0 where
+pub record Turn (p : List ℕ) (s i : ℕ) (index noted : Index) : Type 0 where
   pub more : i < held p
   pub from : origin p i ≡ s
-  pub is_noted : noted ≡ set index (actions_at + label p i) 1
+  pub is_noted : noted ≡ with_action index (label p i)
+
+pub turns : (p : List ℕ) (s i : ℕ) (index : Index) (action : ℕ) → i < held p → origin p i ≡ s → action ≡ label p i
+    → Turn p s i index (with_action index action)
+turns p s i index action h e l = record { more = h; from = e; is_noted = ap (λ (k : ℕ). with_action index k) l }
 
 -- a state met while it is open
-pub visited_open : (p : List ℕ) (s : ℕ) (index before : List ℕ) → get_or before s 0 ≡ 1 → Visited p index before index before s false
+pub visited_open : (p : List ℕ) (s : ℕ) (index : Index) (before : List ℕ) → get_or before s 0 ≡ 1 → Visited p index before index before s false
 visited_open p s index before e = record { result = go; same_length = refl; none_forgotten = omega arith }
   where
     go : (f : ℕ) → unseen before < f → visit p f s index before ≡ outcome false index before
     go zero h = absurd (not-suc-le-zero h)
     go (suc f) h = visit_open p f s index before e
 
-pub scan_starts : (p : List ℕ) (s : ℕ) (index₀ colours₀ : List ℕ) (i : ℕ) → i ≡ first_by_halving p s → i ≤ held p
+pub scan_starts : (p : List ℕ) (s : ℕ) (index₀ : Index) (colours₀ : List ℕ) (i : ℕ) → i ≡ first_by_halving p s → i ≤ held p
     → Scanning p s index₀ colours₀ i index₀ colours₀
 scan_starts p s index₀ colours₀ i e h = record {
   before_end = h;
@@ -97,11 +109,11 @@ scan_starts p s index₀ colours₀ i e h = record {
   left = λ f l. ap (λ (k : ℕ). rest p s f k index₀ colours₀) (sym e);
 }
 
-module _ {p : List ℕ} {s : ℕ} {index before index₀ : List ℕ} (b : Begun p s index before index₀) where
+module _ {p : List ℕ} {s : ℕ} {index : Index} {before : List ℕ} {index₀ : Index} (b : Begun p s index before index₀) where
   pub fewer_unseen : unseen (set before s 1) < unseen before
   fewer_unseen = unseen_falls before s 0 b.inside b.unseen_yet
 
-  module _ {i : ℕ} {index' colours : List ℕ} (w : Scanning p s index₀ (set before s 1) i index' colours) where
+  module _ {i : ℕ} {index' : Index} {colours : List ℕ} (w : Scanning p s index₀ (set before s 1) i index' colours) where
     -- what the whole search leaves is what is left to scan leaves
     whole : (o : Outcome) → ((f : ℕ) → unseen (set before s 1) < f → rest p s f i index' colours ≡ o)
         → (f : ℕ) → unseen before < f → visit p f s index before ≡ o
@@ -109,9 +121,9 @@ module _ {p : List ℕ} {s : ℕ} {index before index₀ : List ℕ} (b : Begun 
     whole o end (suc f) h =
         let l : unseen (set before s 1) < f = omega (arith, fewer_unseen) in
         visit_new p f s index before b.unseen_yet ∙
-        (ap (λ (x : List ℕ). rest p s f (first_by_halving p s) x (set before s 1)) (sym b.is_begun) ∙ (w.left f l ∙ end f l))
+        (ap (λ (x : Index). rest p s f (first_by_halving p s) x (set before s 1)) (sym b.is_begun) ∙ (w.left f l ∙ end f l))
 
-    module _ {noted : List ℕ} (t : Turn p s i index' noted) where
+    module _ {noted : Index} (t : Turn p s i index' noted) where
       pub scan_past : 1 < get_or colours (target p i) 0 → Scanning p s index₀ (set before s 1) (i + 1) noted colours
       scan_past d = record {
         before_end = omega (arith, t.more);
@@ -119,17 +131,17 @@ module _ {p : List ℕ} {s : ℕ} {index before index₀ : List ℕ} (b : Begun 
         none_forgotten = w.none_forgotten;
         left = λ f l.
             w.left f l ∙ (scan_done p (λ t x c. visit p f t x c) s i index' colours t.more t.from d ∙
-            ap (λ (x : List ℕ). rest p s f (i + 1) x colours) (sym t.is_noted));
+            ap (λ (x : Index). rest p s f (i + 1) x colours) (sym t.is_noted));
       }
 
       -- the target is searched
-      module _ (not_done : get_or colours (target p i) 0 ≤ 1) {index'' after : List ℕ} where
+      module _ (not_done : get_or colours (target p i) 0 ≤ 1) {index'' : Index} {after : List ℕ} where
         at_target : (r : Bool) → Visited p noted colours index'' after (target p i) r → (f : ℕ) → unseen (set before s 1) < f
             → rest p s f i index' colours ≡ go_on (λ x c. rest p s f (i + 1) x c) (outcome r index'' after)
         at_target r got f l =
             scan_target p (λ t x c. visit p f t x c) s i index' colours t.more t.from not_done ∙
             ap (λ (o : Outcome). go_on (λ x c. rest p s f (i + 1) x c) o)
-            (ap (λ (x : List ℕ). visit p f (target p i) x colours) (sym t.is_noted) ∙ got.result f (omega (arith, w.none_forgotten)))
+            (ap (λ (x : Index). visit p f (target p i) x colours) (sym t.is_noted) ∙ got.result f (omega (arith, w.none_forgotten)))
 
         pub scan_found : Visited p noted colours index'' after (target p i) false → Visited p index before index'' after s false
         scan_found got = record {
@@ -147,17 +159,14 @@ module _ {p : List ℕ} {s : ℕ} {index before index₀ : List ℕ} (b : Begun 
         }
 
     -- transition i is none of the state's
-    pub scan_ends : (ltb i (held p) && eqb (origin p i) s) ≡ false → {ended : List ℕ} → ended ≡ set index' (firsts_at + (s + 1)) i
+    pub scan_ends : (i < held p → origin p i ≡ s → ⊥) → {ended : Index} → ended ≡ with_first index' (s + 1) i
         → Visited p index before ended (set colours s 2) s true
-    scan_ends e {ended} is-ended = record {
-      result = whole (outcome true ended (set colours s 2)) (λ f l. last f ∙ ap (λ (x : List ℕ). outcome true x (set colours s 2)) (sym is-ended));
+    scan_ends other {ended} is-ended = record {
+      result = whole (outcome true ended (set colours s 2)) (λ f l. last f ∙ ap (λ (x : Index). outcome true x (set colours s 2)) (sym is-ended));
       same_length = simp length-set (w.same_length ∙ simp length-set);
       none_forgotten = omega (arith, unseen_set colours s 1, w.none_forgotten, fewer_unseen);
     }
       where
-        other : i < held p → origin p i ≡ s → ⊥
-        other h q = true≢false (sym (ap₂ ◌&&◌ (lt-ltb i (held p) h) (eq-eqb (origin p i) s q)) ∙ e)
-
         last : (f : ℕ) → rest p s f i index' colours ≡ leave s i index' colours
         last f =
             elim (dec_lt i (held p)) [
@@ -170,7 +179,7 @@ module _ {p : List ℕ} {s : ℕ} {index before index₀ : List ℕ} (b : Begun 
 pub visiting_starts : (p : List ℕ) (count s : ℕ) → TransitionsCounted p count → Visiting p count (replicate colour_count 0) s
 visiting_starts p count s counted = record { counted = counted; room = refl; not_done = omega (arith, colourless colour_count s) }
 
-pub visited_explored : (p index index' after : List ℕ) (s : ℕ) (r : Bool) → Visited p index (replicate colour_count 0) index' after s r
+pub visited_explored : (p : List ℕ) (index index' : Index) (after : List ℕ) (s : ℕ) (r : Bool) → Visited p index (replicate colour_count 0) index' after s r
     → (r ≡ found_none (explored p index s)) × (index' ≡ index_left (explored p index s))
 unfolding explored
 visited_explored p index index' after s r got =

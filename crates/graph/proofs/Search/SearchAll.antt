@@ -6,6 +6,7 @@ use mathlib.Core.Path.{◌≡◌, refl, sym, ap, subst, ◌∙◌}
 use native.Mathlib.Omega.{arith}
 use native.Mathlib.Decide.{dec_lt, ℕ_discrete}
 use lib.ListN.{length, get_or, replicate}
+use Rattle.graph.specs.declared.Index.{Index}
 use Rattle.graph.specs.LoopTest.{loop_free}
 use Rattle.graph.specs.Search.{Outcome, outcome, found_none, index_left, go_on, visit, colour_count, most_states, sweep, explored_all}
 use Rattle.graph.specs.Explored.{StartsFrom, ExploredAll, ExploreAllRequires, SearchAllRight}
@@ -17,14 +18,14 @@ use Rattle.graph.proofs.Search.SweepSteps.{sweep_none, sweep_past, sweep_done, s
 use Rattle.graph.proofs.Search.SearchRight.{visit_right, all_indexed}
 
 -- the states below s are passed: those to start from are done. Between two searches no state is open
-record PassedTo (p index₀ starts index colours : List ℕ) (s : ℕ) : Type 0 where
+record PassedTo (p : List ℕ) (index₀ : Index) (starts : List ℕ) (index : Index) (colours : List ℕ) (s : ℕ) : Type 0 where
   room : length colours ≡ colour_count
   coloured : Coloured p index colours
   none_open : (u : ℕ) → get_or colours u 0 ≡ 1 → ⊥
   started_done : (u : ℕ) → u < s → StartsFrom starts u → 1 < get_or colours u 0
   retains : Retains p index₀ index
 
-passed_none : (p index starts : List ℕ) → PassedTo p index starts index (replicate colour_count 0) 0
+passed_none : (p : List ℕ) (index : Index) (starts : List ℕ) → PassedTo p index starts index (replicate colour_count 0) 0
 passed_none p index starts = record {
   room = refl;
   coloured = record { done = λ u h. absurd (omega (arith, colourless colour_count u)) };
@@ -33,7 +34,7 @@ passed_none p index starts = record {
   retains = retains_self;
 }
 
-module _ {p index₀ starts index colours : List ℕ} {s : ℕ} (w : PassedTo p index₀ starts index colours s) where
+module _ {p : List ℕ} {index₀ : Index} {starts : List ℕ} {index : Index} {colours : List ℕ} {s : ℕ} (w : PassedTo p index₀ starts index colours s) where
   pass_other : get_or starts s 0 ≡ 0 → PassedTo p index₀ starts index colours (s + 1)
   pass_other e = record {
     room = w.room;
@@ -46,7 +47,7 @@ module _ {p index₀ starts index colours : List ℕ} {s : ℕ} (w : PassedTo p 
     retains = w.retains;
   }
 
-  pass_done : {index' after : List ℕ} → Finished p index colours index' after s → PassedTo p index₀ starts index' after (s + 1)
+  pass_done : {index' : Index} {after : List ℕ} → Finished p index colours index' after s → PassedTo p index₀ starts index' after (s + 1)
   pass_done {index'} {after} f = record {
     room = f.same_length ∙ w.room;
     coloured = f.coloured;
@@ -58,35 +59,33 @@ module _ {p index₀ starts index colours : List ℕ} {s : ℕ} (w : PassedTo p 
     retains = retains_then w.retains f.retains;
   }
 
-module _ (p index₀ starts : List ℕ) (given : ExploreAllRequires p index₀ starts) where
+module _ (p : List ℕ) (index₀ : Index) (starts : List ℕ) (given : ExploreAllRequires p index₀ starts) where
   abbrev AllBy : Outcome → Type 0
   AllBy o = ExploredAll p index₀ (index_left o) starts (found_none o)
 
   -- a state to start from is below 128, so it is passed
-  all_passed_right : (index colours : List ℕ) (s : ℕ) → most_states ≤ s → PassedTo p index₀ starts index colours s → AllBy (outcome true index colours)
+  all_passed_right : (index : Index) (colours : List ℕ) (s : ℕ) → most_states ≤ s → PassedTo p index₀ starts index colours s → AllBy (outcome true index colours)
   all_passed_right index colours s h w = record {
     free = λ e u a. (w.coloured.done u (all_done u a)).is_settled;
     looped = λ e. absurd (true≢false e);
-    size = λ e. w.retains.size;
-    same = λ e. w.retains.same;
+    size = λ e. w.retains.size given.sized;
     reached = λ e u a. all_indexed p given.kept index colours w.coloured u (all_done u a);
   }
     where
       all_done : (u : ℕ) → StartsFrom starts u → 1 < get_or colours u 0
       all_done u a = w.started_done u (omega (arith, given.starts_below u a, given.kept.few_states)) a
 
-  met_loop : (index colours : List ℕ) (s : ℕ) → StartsFrom starts s → loop_free p s ≡ false → AllBy (outcome false index colours)
+  met_loop : (index : Index) (colours : List ℕ) (s : ℕ) → StartsFrom starts s → loop_free p s ≡ false → AllBy (outcome false index colours)
   met_loop index colours s a e = record {
     free = λ q. absurd (true≢false (sym q));
     looped = λ q. (s, a, e);
     size = λ q. absurd (true≢false (sym q));
-    same = λ q. absurd (true≢false (sym q));
     reached = λ q. absurd (true≢false (sym q));
   }
 
   -- what the sweep of n states from s on leaves
   abbrev Sweeps : ℕ → ℕ → Type 0
-  Sweeps n s = (index colours : List ℕ) → PassedTo p index₀ starts index colours s → AllBy (sweep p starts n s index colours)
+  Sweeps n s = (index : Index) (colours : List ℕ) → PassedTo p index₀ starts index colours s → AllBy (sweep p starts n s index colours)
 
   swept_right : (n s : ℕ) → most_states ≤ s + n → Sweeps n s
   swept_right zero s m index colours w =
@@ -98,7 +97,7 @@ module _ (p index₀ starts : List ℕ) (given : ExploreAllRequires p index₀ s
         explores = record {
           kept = given.kept;
           few_actions = given.few_actions;
-          sized = w.retains.size ∙ given.sized;
+          sized = w.retains.size given.sized;
           state_below = given.starts_below s a;
         };
         not_done = d;
@@ -134,6 +133,6 @@ search_all_right p index starts given =
     swept_right p index starts given most_states 0 (omega arith) index (replicate colour_count 0) (passed_none p index starts)
 
 -- what the two equations of `explore_all` say of a well-formed plan
-pub explore_all_right : (p index index' starts : List ℕ) (r : Bool) → ExploreAllRequires p index starts
+pub explore_all_right : (p : List ℕ) (index index' : Index) (starts : List ℕ) (r : Bool) → ExploreAllRequires p index starts
     → r ≡ found_none (explored_all p index starts) → index' ≡ index_left (explored_all p index starts) → ExploredAll p index index' starts r
 explore_all_right p index index' starts r given e f = rw (e, f) (search_all_right p index starts given)

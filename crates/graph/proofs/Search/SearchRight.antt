@@ -10,7 +10,8 @@ use native.Mathlib.Decide.{dec_lt, ℕ_discrete}
 use lib.ListN.{get_or, set, replicate}
 use Rattle.sheet.specs.Plan.{transition_count, origin, label, target}
 use Rattle.sheet.specs.WellFormed.{WellFormedPlan}
-use Rattle.graph.specs.Index.{actions_at}
+use Rattle.graph.specs.declared.Index.{Index}
+use Rattle.graph.specs.Index.{Sized, with_action}
 use Rattle.graph.specs.Loops.{Way, last, first, Reachable}
 use Rattle.graph.specs.LoopTest.{loop_free}
 use Rattle.graph.specs.Search.{held, first_by_halving, Outcome, outcome, found_none, index_left, colours_left, go_on, leave, scan, enter, visit, colour_count, explored}
@@ -29,11 +30,11 @@ use Rattle.graph.proofs.Search.SearchSteps.{met_open, fewer, begun, partway_star
 -- what a search f states deep leaves
 abbrev Right : List ℕ → ℕ → Type 0
 Right p f =
-    (s : ℕ) (index colours : List ℕ) → Searching p index colours s → unseen colours < f
+    (s : ℕ) (index : Index) (colours : List ℕ) → Searching p index colours s → unseen colours < f
     → SearchedBy p index colours s (visit p f s index colours)
 
 module _
-    (p : List ℕ) (f : ℕ) (ih : Right p f) (s : ℕ) (index before : List ℕ)
+    (p : List ℕ) (f : ℕ) (ih : Right p f) (s : ℕ) (index : Index) (before : List ℕ)
     (asked : Searching p index before s) (unseen_yet : get_or before s 0 ≡ 0) (deep : unseen before ≤ f)
   where
     kept : WellFormedPlan p
@@ -42,24 +43,24 @@ module _
     abbrev By : Outcome → Type 0
     By = SearchedBy p index before s
 
-    abbrev rec : ℕ → List ℕ → List ℕ → Outcome
+    abbrev rec : ℕ → Index → List ℕ → Outcome
     rec t x c = visit p f t x c
 
-    abbrev rest : ℕ → List ℕ → List ℕ → Outcome
+    abbrev rest : ℕ → Index → List ℕ → Outcome
     rest i x c = scan p rec s (held p - i) i x c
 
-    abbrev Scanned : ℕ → List ℕ → List ℕ → Type 0
+    abbrev Scanned : ℕ → Index → List ℕ → Type 0
     Scanned i x c = Partway p (begun asked unseen_yet) (set before s 1) x c s i
 
-    abbrev noting : ℕ → List ℕ → List ℕ
-    noting i x = set x (actions_at + label p i) 1
+    abbrev noting : ℕ → Index → Index
+    noting i x = with_action x (label p i)
 
     -- what the rest leaves
     abbrev Goes : ℕ → Type 0
-    Goes i = (x c : List ℕ) → Scanned i x c → By (rest i x c)
+    Goes i = (x : Index) (c : List ℕ) → Scanned i x c → By (rest i x c)
 
     -- the transitions of s end at i
-    left : (i : ℕ) (x c : List ℕ) → Scanned i x c → (i < transition_count p → origin p i ≡ s → ⊥)
+    left : (i : ℕ) (x : Index) (c : List ℕ) → Scanned i x c → (i < transition_count p → origin p i ≡ s → ⊥)
         → rest i x c ≡ leave s i x c → By (rest i x c)
     left i x c w none e =
         let past : first_from p (s + 1) ≤ i = no_longer_from p kept s i w.after_first none in
@@ -123,7 +124,7 @@ visit_right p (suc f) s index before asked deep = go (visit_right p f)
 
 -- ---- from colours that are all 0
 
-search_starts : (p index : List ℕ) (s : ℕ) → ExploreRequires p index s → Searching p index (replicate colour_count 0) s
+search_starts : (p : List ℕ) (index : Index) (s : ℕ) → ExploreRequires p index s → Searching p index (replicate colour_count 0) s
 search_starts p index s given = record {
   explores = given;
   not_done = omega (arith, colourless colour_count s);
@@ -132,11 +133,11 @@ search_starts p index s given = record {
   open_leads = λ u e. absurd (omega (arith, colourless colour_count u));
 }
 
-explored_right : (p index : List ℕ) (s : ℕ) → ExploreRequires p index s → SearchedBy p index (replicate colour_count 0) s (explored p index s)
+explored_right : (p : List ℕ) (index : Index) (s : ℕ) → ExploreRequires p index s → SearchedBy p index (replicate colour_count 0) s (explored p index s)
 unfolding explored
 explored_right p index s given = visit_right p (colour_count + 1) s index (replicate colour_count 0) (search_starts p index s given) (omega (arith, all_unseen colour_count))
 
-module _ (p : List ℕ) (kept : WellFormedPlan p) (index colours : List ℕ) (coloured : Coloured p index colours) where
+module _ (p : List ℕ) (kept : WellFormedPlan p) (index : Index) (colours : List ℕ) (coloured : Coloured p index colours) where
   -- a way from a done state leads to done states
   way_done : {u t : ℕ} → 1 < get_or colours u 0 → Way (successors p) u t → 1 < get_or colours t 0
   way_done {u} {t} h (last m) =
@@ -150,12 +151,11 @@ module _ (p : List ℕ) (kept : WellFormedPlan p) (index colours : List ℕ) (co
   all_indexed s h u (inl e) = (coloured.done u (subst (λ (v : ℕ). 1 < get_or colours v 0) (sym e) h)).indexed
   all_indexed s h u (inr w) = (coloured.done u (way_done h w)).indexed
 
-search_ends : (p : List ℕ) → WellFormedPlan p → (s : ℕ) (index before index' after : List ℕ) (r : Bool)
+search_ends : (p : List ℕ) → WellFormedPlan p → (s : ℕ) (index : Index) → Sized index → (before : List ℕ) (index' : Index) (after : List ℕ) (r : Bool)
     → Searched p index before index' after s r → Explored p index index' s r
-search_ends p kept s index before index' after r got = record {
+search_ends p kept s index sized before index' after r got = record {
   answer = go r got;
-  size = λ e. (got.finished e).retains.size;
-  same = λ e. (got.finished e).retains.same;
+  size = λ e. (got.finished e).retains.size sized;
   reached = λ e. all_indexed p kept index' after (got.finished e).coloured s (got.finished e).state_done;
 }
   where
@@ -167,7 +167,7 @@ pub search_right : SearchRight
 search_right p index s given = go (explored p index s) (explored_right p index s given)
   where
     go : (o : Outcome) → SearchedBy p index (replicate colour_count 0) s o → Explored p index (index_left o) s (found_none o)
-    go (outcome r x c) got = search_ends p given.kept s index (replicate colour_count 0) x c r got
+    go (outcome r x c) got = search_ends p given.kept s index given.sized (replicate colour_count 0) x c r got
 
 pub search_within : SearchWithin
 search_within p index s given u n = go (explored p index s) (explored_right p index s given) n
@@ -176,6 +176,6 @@ search_within p index s given u n = go (explored p index s) (explored_right p in
     go (outcome r x c) got n = got.within u (λ e. n (e ∙ colourless colour_count u))
 
 -- what the two equations of `explore` say of a well-formed plan
-pub explore_right : (p index index' : List ℕ) (s : ℕ) (r : Bool) → ExploreRequires p index s
+pub explore_right : (p : List ℕ) (index index' : Index) (s : ℕ) (r : Bool) → ExploreRequires p index s
     → r ≡ found_none (explored p index s) → index' ≡ index_left (explored p index s) → Explored p index index' s r
 explore_right p index index' s r given e f = rw (e, f) (search_right p index s given)

@@ -10,7 +10,8 @@ use lib.ListN.{length, get_or, set, length-set}
 use lib.Seq.{get_or-set_same}
 use Rattle.sheet.specs.Plan.{state_count, transition_count, label, target}
 use Rattle.sheet.specs.WellFormed.{WellFormedPlan}
-use Rattle.graph.specs.Index.{index_size, firsts_at, actions_at}
+use Rattle.graph.specs.declared.Index.{Index}
+use Rattle.graph.specs.Index.{Sized, with_first, with_action}
 use Rattle.graph.specs.LoopTest.{settled}
 use Rattle.graph.specs.Loops.{Way, last, Reachable}
 use Rattle.graph.specs.Successors.{successors}
@@ -24,7 +25,7 @@ use Rattle.graph.proofs.Search.Retaining.{retains_self, retains_then, retains_fi
 use Rattle.graph.proofs.Search.Partway.{Partway, done_already}
 use Rattle.graph.proofs.Search.Colouring.{unseen_set, unseen_falls, stored, recoloured, coloured_set, opened_keeps, closed_keeps}
 
-module _ {p index before : List ℕ} {s : ℕ} (asked : Searching p index before s) where
+module _ {p : List ℕ} {index : Index} {before : List ℕ} {s : ℕ} (asked : Searching p index before s) where
   kept : WellFormedPlan p
   kept = asked.explores.kept
 
@@ -47,14 +48,14 @@ module _ {p index before : List ℕ} {s : ℕ} (asked : Searching p index before
     pub fewer : unseen (set before s 1) < unseen before
     fewer = unseen_falls before s 0 inside unseen_yet
 
-    abbrev pub begun : List ℕ
-    begun = set index (firsts_at + s) (first_from p s)
+    abbrev pub begun : Index
+    begun = with_first index s (first_from p s)
 
     begun_retains : Retains p index begun
     begun_retains = retains_first kept index asked.explores.sized s (first_from p s) (omega (arith, below)) refl
 
-    begun_first : get_or begun (firsts_at + s) 0 ≡ first_from p s
-    begun_first = get_or-set_same index (firsts_at + s) (first_from p s) 0 (omega (arith, asked.explores.sized, below, kept.few_states))
+    begun_first : get_or begun.firsts s 0 ≡ first_from p s
+    begun_first = get_or-set_same index.firsts s (first_from p s) 0 (omega (arith, asked.explores.sized, below, kept.few_states))
 
     pub partway_start : Partway p begun (set before s 1) begun (set before s 1) s (first_from p s)
     partway_start = record {
@@ -75,7 +76,7 @@ module _ {p index before : List ℕ} {s : ℕ} (asked : Searching p index before
       within = λ u n. absurd (n refl);
     }
 
-    module _ {index' colours : List ℕ} {i : ℕ} (partway : Partway p begun (set before s 1) index' colours s i) where
+    module _ {index' : Index} {colours : List ℕ} {i : ℕ} (partway : Partway p begun (set before s 1) index' colours s i) where
       -- what is open is s, or was open before
       was_open : (u : ℕ) → get_or colours u 0 ≡ 1 → (u ≡ s) ⊎ (get_or before u 0 ≡ 1)
       was_open u e = go (recoloured before s 1 inside u 1 (partway.none_opened u e))
@@ -87,8 +88,8 @@ module _ {p index before : List ℕ} {s : ℕ} (asked : Searching p index before
       as_long : length colours ≡ length before
       as_long = partway.same_length ∙ simp length-set
 
-      sized : length index' ≡ index_size
-      sized = partway.retains.size ∙ (begun_retains.size ∙ asked.explores.sized)
+      sized : Sized index'
+      sized = partway.retains.size (begun_retains.size asked.explores.sized)
 
       -- what has changed since s was met can be reached from s, if what has changed since transition i can
       reached : (after : List ℕ) → ((u : ℕ) → get_or after u 0 ≢ get_or colours u 0 → Reachable (successors p) s u)
@@ -105,8 +106,8 @@ module _ {p index before : List ℕ} {s : ℕ} (asked : Searching p index before
 
       -- the search goes on at the target of transition i, its action noted
       module _ (more : i < first_from p (s + 1)) where
-        abbrev pub noted : List ℕ
-        noted = set index' (actions_at + label p i) 1
+        abbrev pub noted : Index
+        noted = with_action index' (label p i)
 
         there : i < transition_count p
         there = (is_outgoing p kept s i partway.after_first more).0
@@ -120,8 +121,8 @@ module _ {p index before : List ℕ} {s : ℕ} (asked : Searching p index before
         noting : Retains p index' noted
         noting = retains_note kept index' sized (label p i) label_small
 
-        note : get_or noted (actions_at + label p i) 0 ≡ 1
-        note = get_or-set_same index' (actions_at + label p i) 1 0 (omega (arith, sized, label_small))
+        note : get_or noted.actions (label p i) false ≡ true
+        note = get_or-set_same index'.actions (label p i) true false (omega (arith, sized, label_small))
 
         noted_coloured : Coloured p noted colours
         noted_coloured = coloured_on noting partway.coloured
@@ -131,7 +132,7 @@ module _ {p index before : List ℕ} {s : ℕ} (asked : Searching p index before
           explores = record {
             kept = kept;
             few_actions = asked.explores.few_actions;
-            sized = noting.size ∙ sized;
+            sized = noting.size sized;
             state_below = kept.target_below i there;
           };
           not_done = h;
@@ -148,7 +149,7 @@ module _ {p index before : List ℕ} {s : ℕ} (asked : Searching p index before
         pub target_done : 1 < get_or colours (target p i) 0 → Searched p noted colours noted colours (target p i) true
         target_done h = done_already (target p i) noted_coloured h
 
-        module _ {index'' after : List ℕ} where
+        module _ {index'' : Index} {after : List ℕ} where
           -- it met a loop: it can be reached from s too
           pub loop_below : Searched p noted colours index'' after (target p i) false → Searched p index before index'' after s false
           loop_below got = record {
@@ -178,7 +179,7 @@ module _ {p index before : List ℕ} {s : ℕ} (asked : Searching p index before
               | yes q ↦ f.retains.notes_kept (label p k) (noting.notes_kept (label p k) (partway.noted k a q))
               | no q ↦
                   let g : i ≡ k = omega arith in
-                  subst (λ (v : ℕ). get_or index'' (actions_at + label p v) 0 ≡ 1) g (f.retains.notes_kept (label p i) note)
+                  subst (λ (v : ℕ). get_or index''.actions (label p v) false ≡ true) g (f.retains.notes_kept (label p i) note)
             ];
             within = λ u n. elim (ℕ_discrete (get_or after u 0) (get_or colours u 0)) [
               | yes q ↦ partway.within u (λ g. n (q ∙ g))
@@ -191,8 +192,8 @@ module _ {p index before : List ℕ} {s : ℕ} (asked : Searching p index before
 
       -- all transitions of s are passed, and s is done
       module _ (e : i ≡ first_from p (s + 1)) where
-        abbrev ended : List ℕ
-        ended = set index' (firsts_at + (s + 1)) i
+        abbrev ended : Index
+        ended = with_first index' (s + 1) i
 
         room : s < length colours
         room = omega (arith, inside, as_long)
@@ -211,7 +212,7 @@ module _ {p index before : List ℕ} {s : ℕ} (asked : Searching p index before
           indexed = record {
             state_below = below;
             begins = (retains_then partway.retains ending).firsts_kept s (omega (arith, below)) begun_first;
-            ends = get_or-set_same index' (firsts_at + (s + 1)) i 0 (omega (arith, sized, below, kept.few_states)) ∙ e;
+            ends = get_or-set_same index'.firsts (s + 1) i 0 (omega (arith, sized, below, kept.few_states)) ∙ e;
             noted = λ k a b. ending.notes_kept (label p k) (partway.noted k a (omega (arith, e)));
           };
           leads_on = λ k a b. keeps (target p k) (partway.passed k a (omega (arith, e)));

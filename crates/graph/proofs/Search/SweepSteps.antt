@@ -6,6 +6,7 @@ use mathlib.Core.Path.{◌≡◌, refl, sym, ap, ◌∙◌}
 use native.Mathlib.Omega.{arith}
 use lib.ListN.{length, get_or, replicate}
 use borrow.Author.Tests.{lt-ltb, le-ltb, eq-eqb, ne_eqb}
+use Rattle.graph.specs.declared.Index.{Index}
 use Rattle.graph.specs.Search.{Outcome, outcome, found_none, index_left, go_on, visit, colour_count, most_states, sweep, explored_all}
 use Rattle.graph.specs.Explored.{StartsFrom}
 use Rattle.graph.specs.Internal.Searching.{unseen, Visited}
@@ -13,11 +14,11 @@ use Rattle.graph.proofs.Search.Colouring.{unseen_most}
 
 -- ---- the equations of `sweep`
 
-pub sweep_none : (p starts : List ℕ) (s : ℕ) (index colours : List ℕ) → sweep p starts zero s index colours ≡ outcome true index colours
+pub sweep_none : (p starts : List ℕ) (s : ℕ) (index : Index) (colours : List ℕ) → sweep p starts zero s index colours ≡ outcome true index colours
 unfolding sweep
 sweep_none p starts s index colours = refl
 
-module _ (p starts : List ℕ) (n s : ℕ) (index colours : List ℕ) where
+module _ (p starts : List ℕ) (n s : ℕ) (index : Index) (colours : List ℕ) where
   pub sweep_past : get_or starts s 0 ≡ 0 → sweep p starts (suc n) s index colours ≡ sweep p starts n (s + 1) index colours
   unfolding sweep
   sweep_past e = rw (eq-eqb (get_or starts s 0) 0 e)
@@ -35,24 +36,24 @@ module _ (p starts : List ℕ) (n s : ℕ) (index colours : List ℕ) where
 -- ---- what the code shows
 
 -- what is left from state s on
-abbrev remaining : List ℕ → List ℕ → ℕ → List ℕ → List ℕ → Outcome
+abbrev remaining : List ℕ → List ℕ → ℕ → Index → List ℕ → Outcome
 remaining p starts s index colours = sweep p starts (most_states - s) s index colours
 
 -- of the loop: what is left leaves what the whole does
-pub record Sweeping (p index₀ starts index colours : List ℕ) (s : ℕ) : Type 0 where
+pub record Sweeping (p : List ℕ) (index₀ : Index) (starts : List ℕ) (index : Index) (colours : List ℕ) (s : ℕ) : Type 0 where
   pub room : length colours ≡ colour_count
   pub left : explored_all p index₀ starts ≡ remaining p starts s index colours
 
 -- what the code promises of the whole
-abbrev Swept : (p index₀ starts index : List ℕ) → Bool → Type 0
+abbrev Swept : (p : List ℕ) (index₀ : Index) (starts : List ℕ) (index : Index) → Bool → Type 0
 Swept p index₀ starts index r = (r ≡ found_none (explored_all p index₀ starts)) × (index ≡ index_left (explored_all p index₀ starts))
 
-pub sweep_starts : (p index starts : List ℕ) → Sweeping p index starts index (replicate colour_count 0) 0
+pub sweep_starts : (p : List ℕ) (index : Index) (starts : List ℕ) → Sweeping p index starts index (replicate colour_count 0) 0
 unfolding explored_all
 sweep_starts p index starts = record { room = refl; left = refl }
 
-module _ {p index₀ starts index colours : List ℕ} {s : ℕ} (w : Sweeping p index₀ starts index colours s) where
-  swept : (r : Bool) (index' after : List ℕ) → remaining p starts s index colours ≡ outcome r index' after → Swept p index₀ starts index' r
+module _ {p : List ℕ} {index₀ : Index} {starts : List ℕ} {index : Index} {colours : List ℕ} {s : ℕ} (w : Sweeping p index₀ starts index colours s) where
+  swept : (r : Bool) (index' : Index) (after : List ℕ) → remaining p starts s index colours ≡ outcome r index' after → Swept p index₀ starts index' r
   swept r index' after e = (sym (ap found_none (w.left ∙ e)), sym (ap index_left (w.left ∙ e)))
 
   pub sweep_ends : most_states ≤ s → Swept p index₀ starts index true
@@ -75,7 +76,7 @@ module _ {p index₀ starts index colours : List ℕ} {s : ℕ} (w : Sweeping p 
       skip_done d = record { room = w.room; left = w.left ∙ stepped (sweep_done p starts (most_states - (s + 1)) s index colours started d) }
 
       -- the state is searched
-      module _ (not_done : get_or colours s 0 ≤ 1) {index' after : List ℕ} where
+      module _ (not_done : get_or colours s 0 ≤ 1) {index' : Index} {after : List ℕ} where
         at_start : (r : Bool) → Visited p index colours index' after s r
             → remaining p starts s index colours ≡ go_on (λ x c. remaining p starts (s + 1) x c) (outcome r index' after)
         at_start r got =

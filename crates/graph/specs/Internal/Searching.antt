@@ -2,11 +2,12 @@
 -- does.
 use Rattle.std.specs.Prelude.{ℕ, zero, suc, ◌+◌, ◌<◌, ◌≤◌, ◌≡◌, Bool, true, false, List, [], ◌∷◌, ◌≢◌, length, get_or}
 use Rattle.sheet.specs.Plan.{state_count, target}
-use Rattle.graph.specs.Index.{firsts_at, actions_at}
+use Rattle.graph.specs.Index.{Sized}
+use Rattle.graph.specs.declared.Index.{Index}
 use Rattle.graph.specs.LoopTest.{settled}
 use Rattle.graph.specs.Loops.{Way, Reachable}
 use Rattle.graph.specs.Search.{held, Outcome, outcome, visit, colour_count}
-use Rattle.graph.specs.Explored.{first_from, SameBefore, Indexed, ExploreRequires}
+use Rattle.graph.specs.Explored.{first_from, Indexed, ExploreRequires}
 use Rattle.graph.specs.Successors.{successors}
 
 -- the number of states not seen
@@ -29,7 +30,7 @@ pub record Visiting (p : List ℕ) (count : ℕ) (colours : List ℕ) (state : �
   pub not_done : get_or colours state 0 ≤ 1
 
 -- the search did what `visit` does, however deep that may go
-pub record Visited (p index before index' after : List ℕ) (state : ℕ) (Found-None : Bool) : Type 0 where
+pub record Visited (p : List ℕ) (index : Index) (before : List ℕ) (index' : Index) (after : List ℕ) (state : ℕ) (Found-None : Bool) : Type 0 where
   pub result : (f : ℕ) → unseen before < f → visit p f state index before ≡ outcome Found-None index' after
   pub same_length : length after ≡ length before
   pub none_forgotten : unseen after ≤ unseen before
@@ -37,31 +38,30 @@ pub record Visited (p index before index' after : List ℕ) (state : ℕ) (Found
 -- ---- what `visit` leaves of a well-formed plan
 
 -- a done state is settled and indexed, and its transitions lead to done states
-pub record DoneState (p index colours : List ℕ) (u : ℕ) : Type 0 where
+pub record DoneState (p : List ℕ) (index : Index) (colours : List ℕ) (u : ℕ) : Type 0 where
   pub is_settled : settled (successors p) (state_count p) u ≡ true
   pub indexed : Indexed p index u
   pub leads_on : (i : ℕ) → first_from p u ≤ i → i < first_from p (u + 1) → 1 < get_or colours (target p i) 0
 
-pub record Coloured (p index colours : List ℕ) : Type 0 where
+pub record Coloured (p : List ℕ) (index : Index) (colours : List ℕ) : Type 0 where
   pub done : (u : ℕ) → 1 < get_or colours u 0 → DoneState p index colours u
 
 -- a search may begin at a state: it is not done, and a way leads there from each open state
-pub record Searching (p index colours : List ℕ) (state : ℕ) : Type 0 where
+pub record Searching (p : List ℕ) (index : Index) (colours : List ℕ) (state : ℕ) : Type 0 where
   pub explores : ExploreRequires p index state
   pub not_done : get_or colours state 0 ≤ 1
   pub room : length colours ≡ colour_count
   pub coloured : Coloured p index colours
   pub open_leads : (u : ℕ) → get_or colours u 0 ≡ 1 → Way (successors p) u state
 
--- what the places of the index before firsts_at hold, and what it says of where transitions begin and of actions, stays
-pub record Retains (p old new : List ℕ) : Type 0 where
-  pub size : length new ≡ length old
-  pub same : SameBefore firsts_at old new
-  pub firsts_kept : (k : ℕ) → k ≤ state_count p → get_or old (firsts_at + k) 0 ≡ first_from p k → get_or new (firsts_at + k) 0 ≡ first_from p k
-  pub notes_kept : (a : ℕ) → get_or old (actions_at + a) 0 ≡ 1 → get_or new (actions_at + a) 0 ≡ 1
+-- what the index says of where transitions begin and of actions stays
+pub record Retains (p : List ℕ) (old new : Index) : Type 0 where
+  pub size : Sized old → Sized new
+  pub firsts_kept : (k : ℕ) → k ≤ state_count p → get_or old.firsts k 0 ≡ first_from p k → get_or new.firsts k 0 ≡ first_from p k
+  pub notes_kept : (a : ℕ) → get_or old.actions a false ≡ true → get_or new.actions a false ≡ true
 
 -- what a search leaves that met no loop
-pub record Finished (p index before index' after : List ℕ) (state : ℕ) : Type 0 where
+pub record Finished (p : List ℕ) (index : Index) (before : List ℕ) (index' : Index) (after : List ℕ) (state : ℕ) : Type 0 where
   pub state_done : 1 < get_or after state 0
   pub same_length : length after ≡ length before
   pub coloured : Coloured p index' after
@@ -71,12 +71,12 @@ pub record Finished (p index before index' after : List ℕ) (state : ℕ) : Typ
   pub retains : Retains p index index'
 
 -- what a search leaves: a loop can be reached from the state, or the search met none
-pub record Searched (p index before index' after : List ℕ) (state : ℕ) (Found-None : Bool) : Type 0 where
+pub record Searched (p : List ℕ) (index : Index) (before : List ℕ) (index' : Index) (after : List ℕ) (state : ℕ) (Found-None : Bool) : Type 0 where
   pub looped : Found-None ≡ false → settled (successors p) (state_count p) state ≡ false
   pub finished : Found-None ≡ true → Finished p index before index' after state
   -- it colours no state that can't be reached from the state
   pub within : (u : ℕ) → get_or after u 0 ≢ get_or before u 0 → Reachable (successors p) state u
 
 -- the same of an outcome
-abbrev pub SearchedBy : (p index before : List ℕ) → ℕ → Outcome → Type 0
+abbrev pub SearchedBy : List ℕ → Index → List ℕ → ℕ → Outcome → Type 0
 SearchedBy p index before state (outcome Found-None index' after) = Searched p index before index' after state Found-None

@@ -13,45 +13,46 @@ use Rattle.rows.specs.Rows.{Row}
 use Rattle.rows.specs.Tables.{byte_at, filled, known}
 use Rattle.rows.specs.FollowsFrom.{follows_from}
 use Rattle.rows.proofs.Follows.SolvedTables.{small_filled}
+use Rattle.judge.specs.declared.index.Index.{Index}
 use Rattle.judge.specs.Cells.{Cell, cell, marks, written_rows, position_of, cell_bytes, InTable}
 use Rattle.judge.specs.Auditing.{every_below, every_byte, mark_allowed, byte_marked, byte_follows}
 use Rattle.judge.specs.AuditCorrect.{FilledCell}
 use Rattle.judge.specs.Internal.Deciding.{DecideRequires}
-use Rattle.judge.specs.Internal.Index.{NodeAt, nodes_at, marks_at, binders_at, ends_at}
+use Rattle.judge.specs.Internal.Index.{NodeAt}
 use Rattle.judge.specs.Internal.Auditing.{row_follows, mark_told, ShownToFollow, shown_after, cell_passes, state_passes, table_passes, StateRequires, CellRequires, CellsRequires}
 use Rattle.judge.proofs.Cells.CellLayout.{position_inside}
 use Rattle.judge.proofs.Cells.CellRows.{modal_row}
 use Rattle.judge.proofs.Audit.FilledCells.{every_filled, mark_exactly}
-use Rattle.judge.proofs.Steps.DecideSteps.{position_at, kind_at, size_small, prepared_node, prepared_small}
+use Rattle.judge.proofs.Steps.DecideSteps.{position_at, kind_at, size_small, prepared_node}
 use Rattle.judge.proofs.Steps.DecideCalls.{placed}
 
 -- ---- the mark
 
-pub told_zero : (index : List ℕ) (m n : ℕ) → m ≡ 0 → true ≡ mark_told index m n
+pub told_zero : (index : Index) (m n : ℕ) → m ≡ 0 → true ≡ mark_told index m n
 told_zero index zero n e = refl
 told_zero index (suc k) n e = absurd (omega arith)
 
-module _ (index : List ℕ) where
-  told_of : (m n : ℕ) → (m ≡ 0 → ⊥) → {k x : ℕ} → k ≡ m - 1 → x ≡ get_or index (binders_at + k) 0
-      → mark_told index m n ≡ (ltb x n && ltb n (get_or index (ends_at + k) 0))
+module _ (index : Index) where
+  told_of : (m n : ℕ) → (m ≡ 0 → ⊥) → {k x : ℕ} → k ≡ m - 1 → x ≡ get_or index.binders k 0
+      → mark_told index m n ≡ (ltb x n && ltb n (get_or index.ends k 0))
   told_of zero n h e q = absurd (h refl)
   told_of (suc j) n h {k} e q =
       let same : j ≡ k = omega arith in
-      ap (λ (i : ℕ). ltb (get_or index (binders_at + i) 0) n && ltb n (get_or index (ends_at + i) 0)) same ∙
-      ap (λ (i : ℕ). ltb i n && ltb n (get_or index (ends_at + k) 0)) (sym q)
+      ap (λ (i : ℕ). ltb (get_or index.binders i 0) n && ltb n (get_or index.ends i 0)) same ∙
+      ap (λ (i : ℕ). ltb i n && ltb n (get_or index.ends k 0)) (sym q)
 
-  pub told_above : (m n : ℕ) → (m ≡ 0 → ⊥) → {k N x y : ℕ} → k ≡ m - 1 → N ≡ n → x ≡ get_or index (binders_at + k) 0
-      → y ≡ get_or index (ends_at + k) 0 → x < N → ltb N y ≡ mark_told index m n
+  pub told_above : (m n : ℕ) → (m ≡ 0 → ⊥) → {k N x y : ℕ} → k ≡ m - 1 → N ≡ n → x ≡ get_or index.binders k 0
+      → y ≡ get_or index.ends k 0 → x < N → ltb N y ≡ mark_told index m n
   told_above m n h {k} {N} {x} {y} e g q r l =
       ap₂ ltb g r ∙ sym (told_of m n h e q ∙ rw (lt-ltb x n (omega arith)))
 
-  pub told_not : (m n : ℕ) → (m ≡ 0 → ⊥) → {k N x : ℕ} → k ≡ m - 1 → N ≡ n → x ≡ get_or index (binders_at + k) 0
+  pub told_not : (m n : ℕ) → (m ≡ 0 → ⊥) → {k N x : ℕ} → k ≡ m - 1 → N ≡ n → x ≡ get_or index.binders k 0
       → N ≤ x → false ≡ mark_told index m n
   told_not m n h {k} {N} {x} e g q l = sym (told_of m n h e q ∙ rw (le-ltb x n (omega arith)))
 
 -- ---- one cell
 
-module _ {s index t : List ℕ} {m n st b : ℕ} (q : CellRequires s index t (cell m n st) b) where
+module _ {s : List ℕ} {index : Index} {t : List ℕ} {m n st b : ℕ} (q : CellRequires s index t (cell m n st) b) where
   abbrev rule : List ℕ
   rule = rule_body s
 
@@ -72,7 +73,7 @@ module _ {s index t : List ℕ} {m n st b : ℕ} (q : CellRequires s index t (ce
       go : (m : ℕ) → m < marks rule → mark_told index m n ≡ mark_allowed rule m n
       go zero l = refl
       go (suc k) l =
-          ap₂ (λ (x y : ℕ). ltb x n && ltb n y) (q.at_state.rule_told.binders_are k (omega arith)) (q.at_state.rule_told.ends_are k (omega arith))
+          ap₂ (λ (x y : ℕ). ltb x n && ltb n y) (q.at_state.rule_told.headed.binders_are.filled k (omega arith)) (q.at_state.rule_told.ends_are.filled k (omega arith))
 
   pub allowed_decidable : mark_allowed rule m n ≡ true → DecideRequires s index t (cell m n st)
   allowed_decidable h = record {
@@ -127,17 +128,14 @@ every_below_lem n p = (
 )
 
 -- where the code finds the cells of a node and a state
-module _ {s index t : List ℕ} {st n : ℕ} (q : StateRequires s index t st) (among : n < node_count (rule_body s)) where
-  pub marks_told : get_or index marks_at 0 ≡ marks (rule_body s)
+module _ {s : List ℕ} {index : Index} {t : List ℕ} {st n : ℕ} (q : StateRequires s index t st) (among : n < node_count (rule_body s)) where
+  pub marks_told : index.marks ≡ marks (rule_body s)
   marks_told = q.prepared.marks_are
-
-  pub places_told : (get_or index nodes_at 0 < 256) × (get_or index marks_at 0 < 256)
-  places_told = prepared_small q.accepted q.prepared
 
   pub node_told : NodeAt s index n
   node_told = prepared_node q.accepted q.prepared among
 
-  module _ {start m : ℕ} (e : start ≡ (st * get_or index nodes_at 0 + n) * get_or index marks_at 0 + 0) (l : m < marks (rule_body s)) where
+  module _ {start m : ℕ} (e : start ≡ (st * index.nodes + n) * index.marks + 0) (l : m < marks (rule_body s)) where
     pub cell_there : start + m ≡ position_at s (cell m n st)
     cell_there = placed q.prepared m n st (omega (arith, e))
 
@@ -174,7 +172,7 @@ modal_same s t n st b l h m m' =
 abbrev pub ShownOf : List ℕ → List ℕ → ℕ → ℕ → ℕ → Type 0
 ShownOf s t n st k = (m : ℕ) → ShownToFollow s t (cell m n st) k
 
-pub shown_on : {s index t : List ℕ} {m n st b : ℕ} → CellRequires s index t (cell m n st) b → (b ≡ 0 → ⊥) → {k kind k' : ℕ} → ShownOf s t n st k
+pub shown_on : {s : List ℕ} {index : Index} {t : List ℕ} {m n st b : ℕ} → CellRequires s index t (cell m n st) b → (b ≡ 0 → ⊥) → {k kind k' : ℕ} → ShownOf s t n st k
     → kind ≡ kind_at s n → true ≡ cell_passes s t (cell m n st) → k' ≡ shown_after kind b k → ShownOf s t n st k'
 shown_on {s} {t = t} {m} {n} {st} {b} q some {k} {kind} {k'} was e passes g =
     subst (ShownOf s t n st) (sym g) (go (ltb kind 4) (ltb 5 kind) refl refl)
@@ -187,7 +185,7 @@ shown_on {s} {t = t} {m} {n} {st} {b} q some {k} {kind} {k'} was e passes g =
         ∙ (and_parts (mark_allowed (rule_body s) m n) (row_follows s t (cell m n st) b) (by_byte q some ∙ sym passes)).1
 
 -- a state without filled cells passes
-pub others_pass : {s index t starts : List ℕ} → CellsRequires s index t starts → (u : ℕ) → u < state_count (plan_body s) → get_or starts u 0 ≡ 0
+pub others_pass : {s : List ℕ} {index : Index} {t starts : List ℕ} → CellsRequires s index t starts → (u : ℕ) → u < state_count (plan_body s) → get_or starts u 0 ≡ 0
     → state_passes s t u ≡ true
 others_pass {s} {t = t} q u below e =
     (every_below_lem (node_count (rule_body s)) _).1

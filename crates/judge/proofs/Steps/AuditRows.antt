@@ -12,13 +12,13 @@ use Rattle.rows.proofs.Solver.Walks.{beq_true}
 use Rattle.rows.proofs.Follows.Sound.{filled_known}
 use Rattle.rows.proofs.Follows.Enough.{enough_none, enough_here, enough_on, enough_only, constant_follows}
 use Rattle.graph.specs.Explored.{first_from}
+use Rattle.judge.specs.declared.index.Index.{Index}
 use Rattle.judge.specs.Cells.{Cell, cell, one_entry, opened, outer, written_rows, position_of}
 use Rattle.judge.specs.Internal.Deciding.{DecideRequires, FollowRequires}
-use Rattle.judge.specs.Internal.Index.{nodes_at, marks_at, binders_at}
 use Rattle.judge.specs.Internal.Auditing.{successors_hold, row_follows}
 use Rattle.judge.proofs.Cells.CellRows.{or_decides, of_kind, pair_row, modal_row, outer_row, constant_row, fixpoint_row, unknown_row}
 use Rattle.judge.proofs.Steps.DecideSteps.{position_at, kind_at, x_at, y_at}
-use Rattle.judge.proofs.Steps.DecideCalls.{placed, index_small, cell_inside, binder_found}
+use Rattle.judge.proofs.Steps.DecideCalls.{placed, cell_inside, binder_found}
 use Rattle.judge.proofs.Steps.Turns.{cells_of, cells_from, meets_at, TurnAt, turns_start, cells_start, turns_next, child, child_below, cells_met, cells_unmet, cells_end}
 
 -- a cell is filled with the value of byte b
@@ -39,7 +39,7 @@ pub record SuccessorsLeft (s t : List ℕ) (n st : ℕ) (one : Bool) (b first en
   pub turn : TurnAt s st first end i
   pub left : successors_hold s t n st one b ≡ enough s t one b (cells_from s n st i)
 
-module _ {s index t : List ℕ} {n st : ℕ} (f : FollowRequires s index t n st) {one : Bool} {b : ℕ} where
+module _ {s : List ℕ} {index : Index} {t : List ℕ} {n st : ℕ} (f : FollowRequires s index t n st) {one : Bool} {b : ℕ} where
   pub successors_start : {first end : ℕ} → first ≡ first_from (plan_body s) st → end ≡ first_from (plan_body s) (st + 1)
       → SuccessorsLeft s t n st one b first end first
   unfolding successors_hold
@@ -52,10 +52,7 @@ module _ {s index t : List ℕ} {n st : ℕ} (f : FollowRequires s index t n st)
         child_asked : DecideRequires s index t (cell 0 Y T)
         child_asked = (child_below f w.turn more f.room e g).1
 
-        pub child_places : (get_or index nodes_at 0 < 256) × (get_or index marks_at 0 < 256)
-        child_places = index_small child_asked
-
-        module _ {at : ℕ} (q : at ≡ (T * get_or index nodes_at 0 + Y) * get_or index marks_at 0 + 0) where
+        module _ {at : ℕ} (q : at ≡ (T * index.nodes + Y) * index.marks + 0) where
           pub child_inside : at < length t
           child_inside = cell_inside child_asked (placed f.prepared 0 Y T q)
 
@@ -90,7 +87,7 @@ one_or_two b f = or_cases (eqb b 1) (eqb b 2) f
     (λ x. let q : b ≡ 1 = eqb-true b 1 x in ap (λ (c : ℕ). eqb c 1) q ∙ sym (ap (λ (c : ℕ). not (eqb c 2)) q))
     (λ x. let q : b ≡ 2 = eqb-true b 2 x in ap (λ (c : ℕ). eqb c 1) q ∙ sym (ap (λ (c : ℕ). not (eqb c 2)) q))
 
-module _ {s index t : List ℕ} {m n st : ℕ} (d : DecideRequires s index t (cell m n st)) (b : ℕ) (f : filled b ≡ true) where
+module _ {s : List ℕ} {index : Index} {t : List ℕ} {m n st : ℕ} (d : DecideRequires s index t (cell m n st)) (b : ℕ) (f : filled b ≡ true) where
   abbrev Answer : Bool → Type 0
   Answer r = r ≡ row_follows s t (cell m n st) b
 
@@ -124,13 +121,13 @@ module _ {s index t : List ℕ} {m n st : ℕ} (d : DecideRequires s index t (ce
       has_byte s t b c f q r ∙
       (sym (enough_only (position_of (rule_body s)) t (decides (one_entry c).connective (known b)) (known b) c) ∙ by_row e)
 
-  pub row_outer : {X B at : ℕ} → kind_at s n ≡ 6 → X ≡ x_at s n → B ≡ get_or index (binders_at + X) 0 → outer X m ≡ true
-      → at ≡ (st * get_or index nodes_at 0 + B) * get_or index marks_at 0 + 0 → {h : Bool} → h ≡ eqb (get_or t at 0) b → Answer h
+  pub row_outer : {X B at : ℕ} → kind_at s n ≡ 6 → X ≡ x_at s n → B ≡ get_or index.binders X 0 → outer X m ≡ true
+      → at ≡ (st * index.nodes + B) * index.marks + 0 → {h : Bool} → h ≡ eqb (get_or t at 0) b → Answer h
   row_outer {X} {B} k i j o q =
       only (cell 0 (binder_node (rule_body s) (x_at s n)) st) (outer_row (plan_body s) (actions_body s) (rule_body s) m n st k (ap (λ (y : ℕ). outer y m) (sym i) ∙ o))
       (placed d.prepared 0 B st q ∙ ap (λ (y : ℕ). position_at s (cell 0 y st)) (binder_found d k i j))
 
-  pub row_constant : {X B K : ℕ} → kind_at s n ≡ 6 → X ≡ x_at s n → B ≡ get_or index (binders_at + X) 0 → outer X m ≡ false → K ≡ kind_at s B
+  pub row_constant : {X B K : ℕ} → kind_at s n ≡ 6 → X ≡ x_at s n → B ≡ get_or index.binders X 0 → outer X m ≡ false → K ≡ kind_at s B
       → Answer (beq (eqb K 8) (eqb b 2))
   row_constant {X} {B} {K} k i j o e =
       constantly (eqb (kind_at s (binder_node (rule_body s) (x_at s n))) 8)
@@ -138,7 +135,7 @@ module _ {s index t : List ℕ} {m n st : ℕ} (d : DecideRequires s index t (ce
       (ap (λ (x : ℕ). beq (eqb x 8) (eqb b 2)) (e ∙ ap (kind_at s) (binder_found d k i j)))
 
   pub row_body : {X o y at : ℕ} → 7 ≤ kind_at s n → kind_at s n < 9 → X ≡ x_at s n → o ≡ opened X m → y ≡ y_at s n
-      → at ≡ (st * get_or index nodes_at 0 + y) * get_or index marks_at 0 + o → {h : Bool} → h ≡ eqb (get_or t at 0) b → Answer h
+      → at ≡ (st * index.nodes + y) * index.marks + o → {h : Bool} → h ≡ eqb (get_or t at 0) b → Answer h
   row_body {X} {o} {y} l g i e j q =
       only (cell (opened (x_at s n) m) (y_at s n) st) (fixpoint_row (plan_body s) (actions_body s) (rule_body s) m n st l g)
       (placed d.prepared o y st q ∙ ap₂ (λ (k z : ℕ). position_at s (cell k z st)) (e ∙ ap (λ (x : ℕ). opened x m) i) j)
@@ -176,7 +173,7 @@ module _ {s index t : List ℕ} {m n st : ℕ} (d : DecideRequires s index t (ce
         (ap (λ (x : ℕ). beq (eqb b 2) (eqb x 2)) k ∙ sym (or_decides (eqb (kind_at s n) 2) (known b))) ∙
         by_row (pair_row (plan_body s) (actions_body s) (rule_body s) m n st l g)
 
-    module _ {X at : ℕ} (i : X ≡ x_at s n) (q : at ≡ (st * get_or index nodes_at 0 + X) * get_or index marks_at 0 + m) {h : Bool} (r : h ≡ eqb (get_or t at 0) b) where
+    module _ {X at : ℕ} (i : X ≡ x_at s n) (q : at ≡ (st * index.nodes + X) * index.marks + m) {h : Bool} (r : h ≡ eqb (get_or t at 0) b) where
       first : h ≡ has s t b (cell m (x_at s n) st)
       first = has_byte s t b (cell m (x_at s n) st) f (placed d.prepared m X st q ∙ ap (λ (y : ℕ). position_at s (cell m y st)) i) r
 
@@ -185,7 +182,7 @@ module _ {s index t : List ℕ} {m n st : ℕ} (d : DecideRequires s index t (ce
           sym (enough_here (position_of (rule_body s)) t asks_one (known b) (cell m (x_at s n) st) (cell m (y_at s n) st ∷ [])
           (sym first ∙ beq_true h asks_one e)) ∙ whole
 
-      pub row_second : beq h asks_one ≡ false → {Y au : ℕ} → Y ≡ y_at s n → au ≡ (st * get_or index nodes_at 0 + Y) * get_or index marks_at 0 + m
+      pub row_second : beq h asks_one ≡ false → {Y au : ℕ} → Y ≡ y_at s n → au ≡ (st * index.nodes + Y) * index.marks + m
           → {h' : Bool} → h' ≡ eqb (get_or t au 0) b → Answer h'
       row_second e {Y} j p r' =
           has_byte s t b (cell m (y_at s n) st) f (placed d.prepared m Y st p ∙ ap (λ (y : ℕ). position_at s (cell m y st)) j) r' ∙

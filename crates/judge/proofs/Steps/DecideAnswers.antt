@@ -9,6 +9,7 @@ use Rattle.rows.specs.Tables.{out, constant, byte_of}
 use Rattle.rows.proofs.Solver.QueryByRow.{walk_none, walk_only, walk_both}
 use Rattle.rows.proofs.Solver.Solver.{walk_decided}
 use Rattle.rows.proofs.Solver.Walks.{out_path}
+use Rattle.judge.specs.declared.index.Index.{Index}
 use Rattle.judge.specs.Cells.{Cell, cell, one_entry, opened, outer}
 use Rattle.judge.specs.Internal.Packed.{verdict_in, visits_in, Known, Added, OneVisitMore}
 use Rattle.judge.specs.Querying.{result_at}
@@ -18,7 +19,7 @@ use Rattle.judge.proofs.Steps.DecideSteps.{row_at, position_at, kind_at, x_at, y
 use Rattle.judge.proofs.Steps.DecideCalls.{is_valid}
 
 -- the byte of the cell c is found at `at`
-pub record CellFound (s index t : List ℕ) (c : Cell) (at : ℕ) : Type 0 where
+pub record CellFound (s : List ℕ) (index : Index) (t : List ℕ) (c : Cell) (at : ℕ) : Type 0 where
   pub decidable : DecideRequires s index t c
   pub here : at ≡ position_at s c
 
@@ -26,7 +27,7 @@ pub record CellFound (s index t : List ℕ) (c : Cell) (at : ℕ) : Type 0 where
 abbrev Fills : ℕ → ℕ → List ℕ → ℕ → List ℕ → Type 0
 Fills at w u r x = OneVisitMore w r × (x ≡ set u at (byte_of (verdict_in w)))
 
-module _ {s index t : List ℕ} {m n st at : ℕ} (f : CellFound s index t (cell m n st) at) where
+module _ {s : List ℕ} {index : Index} {t : List ℕ} {m n st at : ℕ} (f : CellFound s index t (cell m n st) at) where
   abbrev Answer : ℕ → List ℕ → Type 0
   Answer r x = Decided s (cell m n st) t r x
 

@@ -8,31 +8,29 @@ use Rattle.sheet.proofs.Nodes.Binders.{kind_binder}
 use Rattle.calculus.proofs.Decoding.Variables.{Above}
 use Rattle.rows.specs.Rows.{Row}
 use Rattle.rows.proofs.Systems.Systems.{Each}
+use Rattle.judge.specs.declared.index.Index.{Index}
 use Rattle.judge.specs.Cells.{Cell, cell, opened, outer, cell_bytes}
 use Rattle.judge.specs.Internal.Deciding.{DecideRequires, FollowRequires}
-use Rattle.judge.specs.Internal.Index.{Prepared, BinderAt, NodeAt, nodes_at, marks_at, binders_at}
+use Rattle.judge.specs.Internal.Index.{Prepared, NodeAt}
 use Rattle.judge.proofs.Cells.BindersAbove.{bound_above, above_below, above_counted, binder_counted, binds_own}
 use Rattle.judge.proofs.Cells.Ranks.{falling}
 use Rattle.judge.proofs.Cells.CellLayout.{layout}
 use Rattle.judge.proofs.Cells.CellRows.{pair_row, outer_row, fixpoint_row}
 use Rattle.judge.proofs.Steps.Turns.{walk_rank}
-use Rattle.judge.proofs.Steps.DecideSteps.{ValidAt, row_at, rank_at, position_at, kind_at, x_at, y_at, valid, decidable, prepared_node, prepared_small}
+use Rattle.judge.proofs.Steps.DecideSteps.{ValidAt, row_at, rank_at, position_at, kind_at, x_at, y_at, valid, decidable, prepared_node}
 use Rattle.sheet.proofs.Acceptance.Parts.{bodies_kept}
 
 -- the byte at which the code finds a cell
-pub placed : {s index : List ℕ} {state : ℕ} → Prepared s index state → (m n st : ℕ) {at : ℕ}
-    → at ≡ (st * get_or index nodes_at 0 + n) * get_or index marks_at 0 + m → at ≡ position_at s (cell m n st)
+pub placed : {s : List ℕ} {index : Index} {state : ℕ} → Prepared s index state → (m n st : ℕ) {at : ℕ}
+    → at ≡ (st * index.nodes + n) * index.marks + m → at ≡ position_at s (cell m n st)
 placed p m n st e = e ∙ ap₂ (λ (x y : ℕ). (st * x + n) * y + m) p.nodes_are p.marks_are
 
-module _ {s index t : List ℕ} {m n st : ℕ} (d : DecideRequires s index t (cell m n st)) where
+module _ {s : List ℕ} {index : Index} {t : List ℕ} {m n st : ℕ} (d : DecideRequires s index t (cell m n st)) where
   pub is_valid : ValidAt s (cell m n st)
   is_valid = valid s d.accepted index t (cell m n st) d
 
   pub node_at : NodeAt s index n
   node_at = prepared_node d.accepted d.prepared d.node_below
-
-  pub index_small : (get_or index nodes_at 0 < 256) × (get_or index marks_at 0 < 256)
-  index_small = prepared_small d.accepted d.prepared
 
   pub cell_inside : {at : ℕ} → at ≡ position_at s (cell m n st) → at < length t
   cell_inside e = omega (arith, layout.inside (cell m n st) is_valid, d.room)
@@ -109,22 +107,16 @@ module _ {s index t : List ℕ} {m n st : ℕ} (d : DecideRequires s index t (ce
     binder_below = omega (arith, (above_below above).after, d.node_below)
 
     -- what the prepared numbers say of the variable's binder
-    binder_stored : {X : ℕ} → X ≡ x_at s n → get_or index (binders_at + X) 0 ≡ binder_node (rule_body s) (x_at s n)
+    binder_stored : {X : ℕ} → X ≡ x_at s n → get_or index.binders X 0 ≡ binder_node (rule_body s) (x_at s n)
     binder_stored {X} e = d.prepared.binders_are X (omega (arith, above_counted above)) ∙ ap (binder_node (rule_body s)) e
 
-    pub binder_asked : {X : ℕ} → X ≡ x_at s n → BinderAt index X
-    binder_asked {X} e =
-        let r = (bodies_kept s d.accepted).rule_kept in
-        record {
-          variable_below = omega (arith, above_counted above, r.few_binders);
-          node_below = omega (arith, binder_stored e, binder_below, d.prepared.nodes_are);
-          few_nodes = omega (arith, d.prepared.nodes_are, r.few_nodes);
-        }
+    pub binder_asked : {X : ℕ} → X ≡ x_at s n → X < 6
+    binder_asked e = omega (arith, above_counted above, (bodies_kept s d.accepted).rule_kept.few_binders)
 
-    pub binder_found : {X b : ℕ} → X ≡ x_at s n → b ≡ get_or index (binders_at + X) 0 → b ≡ binder_node (rule_body s) (x_at s n)
+    pub binder_found : {X b : ℕ} → X ≡ x_at s n → b ≡ get_or index.binders X 0 → b ≡ binder_node (rule_body s) (x_at s n)
     binder_found {X} e f = f ∙ binder_stored e
 
-    pub binder_at : {X b : ℕ} → X ≡ x_at s n → b ≡ get_or index (binders_at + X) 0 → NodeAt s index b
+    pub binder_at : {X b : ℕ} → X ≡ x_at s n → b ≡ get_or index.binders X 0 → NodeAt s index b
     binder_at e f = record {
       accepted = d.accepted;
       offset_is = d.prepared.offset_is;

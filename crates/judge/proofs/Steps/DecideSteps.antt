@@ -1,5 +1,5 @@
 -- What the evaluator's code shows of one cell: that it is valid, and its answer from the walk along its row.
-use Rattle.std.proofs.Common.{◌≡◌, ℕ, zero, suc, ◌+◌, ◌-◌, ◌*◌, ◌<◌, ◌≤◌, true, ltb, List, length, get_or, set, sym, refl, ap, ◌∙◌, mul-le-mul, add-one, arith, ltb-true, eq-eqb, ne_eqb}
+use Rattle.std.proofs.Common.{◌≡◌, ℕ, zero, suc, ◌+◌, ◌-◌, ◌*◌, ◌<◌, ◌≤◌, true, ltb, List, length, set, sym, refl, ap, ◌∙◌, mul-le-mul, add-one, arith, ltb-true, eq-eqb, ne_eqb}
 use Rattle.sheet.specs.Contents.{plan_body, actions_body, rule_body}
 use Rattle.sheet.specs.Plan.{state_count}
 use Rattle.sheet.specs.Actions.{entry_count}
@@ -13,11 +13,12 @@ use Rattle.rows.specs.Tables.{byte_at, known, Result, out, visits, byte_of}
 use Rattle.rows.specs.Internal.Solver.{fill_cell, walk}
 use Rattle.graph.specs.LoopTest.{settled}
 use Rattle.graph.specs.Successors.{successors}
+use Rattle.judge.specs.declared.index.Index.{Index}
 use Rattle.judge.specs.Cells.{Cell, opened, outer, rows, enough, position_of, cell_at, MarkRight, CellOf, cell_bytes}
 use Rattle.judge.specs.Querying.{result_at}
 use Rattle.judge.specs.Internal.Deciding.{DecideRequires, Decided}
 use Rattle.judge.specs.Internal.Packed.{verdict_in, visits_in, Known, OneVisitMore}
-use Rattle.judge.specs.Internal.Index.{Prepared, NodeAt, nodes_at, marks_at}
+use Rattle.judge.specs.Internal.Index.{Prepared, NodeAt}
 use Rattle.rows.proofs.Systems.Systems.{Solvable}
 use Rattle.judge.proofs.Cells.BindersAbove.{above_below, below_above, above_counted, below_tested, tested_below}
 use Rattle.judge.proofs.Cells.ValidCells.{Marked, Valid}
@@ -66,14 +67,9 @@ abbrev pub y_at : List ℕ → ℕ → ℕ
 y_at s n = node_y (rule_body s) n
 
 -- a node of an accepted sheet, and the numbers of nodes and marks, as the prepared index has them
-module _ {s index : List ℕ} {st : ℕ} (accepted : sheet_check s ≡ Ok tt) (p : Prepared s index st) where
+module _ {s : List ℕ} {index : Index} {st : ℕ} (accepted : sheet_check s ≡ Ok tt) (p : Prepared s index st) where
   pub prepared_node : {n : ℕ} → n < node_count (rule_body s) → NodeAt s index n
   prepared_node h = record { accepted = accepted; offset_is = p.offset_is; node_below = h }
-
-  pub prepared_small : (get_or index nodes_at 0 < 256) × (get_or index marks_at 0 < 256)
-  prepared_small =
-      let k = (bodies_kept s accepted).rule_kept in
-      (omega (arith, p.nodes_are, k.few_nodes), omega (arith, p.marks_are, k.few_binders))
 
 -- the walk along a row, each cell decided with the table so far
 abbrev pub walk_along : List ℕ → Row Cell → List ℕ → Result
@@ -116,12 +112,12 @@ module _ (s : List ℕ) (accepted : sheet_check s ≡ Ok tt) where
     mark_right = mark_right c.mark c.node v.node_below v.marked;
   }
 
-  pub valid : (index t : List ℕ) (c : Cell) → DecideRequires s index t c → ValidAt s c
+  pub valid : (index : Index) (t : List ℕ) (c : Cell) → DecideRequires s index t c → ValidAt s c
   valid index t c d =
       counted c (record { node_below = d.node_below; state_below = d.state_below; mark_right = d.mark_right }) d.state_settled
 
   -- a valid cell can be decided on any table that is as long
-  pub decidable : (index t : List ℕ) (c : Cell) → Prepared s index c.state → cell_bytes s ≤ length t → ValidAt s c → DecideRequires s index t c
+  pub decidable : (index : Index) (t : List ℕ) (c : Cell) → Prepared s index c.state → cell_bytes s ≤ length t → ValidAt s c → DecideRequires s index t c
   decidable index t c p room v = record {
     accepted = accepted;
     prepared = p;

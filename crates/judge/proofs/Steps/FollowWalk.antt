@@ -7,6 +7,7 @@ use Rattle.sheet.specs.Plan.{target}
 use Rattle.rows.specs.Rows.{disjunction, conjunction}
 use Rattle.rows.specs.Tables.{Result, out}
 use Rattle.rows.specs.Internal.Solver.{after}
+use Rattle.judge.specs.declared.index.Index.{Index}
 use Rattle.judge.specs.Cells.{Cell, cell}
 use Rattle.graph.specs.Explored.{first_from}
 use Rattle.judge.specs.Querying.{result_at}
@@ -40,7 +41,7 @@ pub record WalkedTo (s t : List ℕ) (n st first end i sum : ℕ) (u : List ℕ)
 pub sum_small : {s t : List ℕ} {n st first end i sum : ℕ} {u : List ℕ} → WalkedTo s t n st first end i sum u → sum < 1000000000
 sum_small w = omega (arith, w.small, w.turn.few, w.turn.within)
 
-module _ {s index t : List ℕ} {n st : ℕ} (f : FollowRequires s index t n st) where
+module _ {s : List ℕ} {index : Index} {t : List ℕ} {n st : ℕ} (f : FollowRequires s index t n st) where
   pub walk_start : {first end : ℕ} → first ≡ first_from (plan_body s) st → end ≡ first_from (plan_body s) (st + 1)
       → WalkedTo s t n st first end first 0 t
   walk_start {first} e g = record {

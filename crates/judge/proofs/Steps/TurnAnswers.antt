@@ -19,6 +19,7 @@ use Rattle.graph.specs.Explored.{StartsFrom}
 use Rattle.graph.specs.LoopTest.{all_pass, loop_free}
 use Rattle.graph.proofs.Looptest.Settled.{all_member, all_members}
 use Rattle.graph.proofs.Search.Colouring.{colourless}
+use Rattle.judge.specs.declared.index.Index.{Index}
 use Rattle.judge.specs.Cells.{cell_bytes, table_bytes, cells_in, count_bytes}
 use Rattle.judge.specs.StoredCount.{in_four_bytes, stored_count, filled_cells, table_with}
 use Rattle.judge.specs.Querying.{bytes_right, count_right}
@@ -27,11 +28,13 @@ use Rattle.std.specs.Prelude.{Ok, Err}
 use Rattle.judge.specs.InTurn.{InTurn}
 use Rattle.judge.specs.declared.QueryError.TheVariants.{WrongCount, Refused}
 use Rattle.judge.specs.Internal.Preparing.{RuleTold, StatesAsked, StatesTold, looped, told}
-use Rattle.judge.specs.Internal.Turns.{MarkRequires, StatesMarked, missing, marked, EachPrepared, holds_on, walk_in_turn, WalkRequires, WalkedInTurn, TurnsRequires}
+use Rattle.judge.specs.Internal.Turns.{MarkRequires, StatesMarked, missing, marked, EachPrepared, holds_on, walk_in_turn, WalkRequires, WalkedInTurn}
 use Rattle.judge.proofs.Cells.CountLayout.{cells_length}
 use Rattle.judge.proofs.Lists.FilledTables.{solved}
 use Rattle.judge.proofs.Steps.DecideSteps.{size_small}
 use Rattle.judge.proofs.Steps.QueryAnswers.{counted_after}
+use Rattle.judge.proofs.Steps.RightCount.{Taken, TurnedDown, short, over, miscounted}
+use Rattle.judge.specs.declared.QueryError.{QueryError}
 use Rattle.judge.proofs.Steps.TurnSteps.{walk_is}
 
 module _ (s states t : List ℕ) where
@@ -104,15 +107,15 @@ module _ (s : List ℕ) {states : List ℕ} (accepted : sheet_check s ≡ Ok tt)
         go (missing f _ _ _) = absurd (differ b e f)
         go (marked _ all back) = back
 
-    pub list_asked : {index : List ℕ} → RuleTold s index → StatesAsked s index starts
+    pub list_asked : {index : Index} → RuleTold s index → StatesAsked s index starts
     list_asked r = record { accepted = accepted; rule_told = r; starts_below = λ u h. (listed u (named u h)).0 }
 
-    pub list_looped : {index : List ℕ} {free : Bool} → free ≡ false → StatesTold s starts index free → (t : List ℕ)
+    pub list_looped : {index : Index} {free : Bool} → free ≡ false → StatesTold s starts index free → (t : List ℕ)
         → QueriesInTurn s states t (Err (Refused Loop)) t
     list_looped f (looped _ u h l) t = in_turn_loop s states t accepted (λ v m. (listed v m).0) u (named u h) l
     list_looped f (told g _ _) t = absurd (differ _ g f)
 
-    pub list_free : {index : List ℕ} {free : Bool} → free ≡ true → StatesTold s starts index free → EachPrepared s index states
+    pub list_free : {index : Index} {free : Bool} → free ≡ true → StatesTold s starts index free → EachPrepared s index states
     list_free f (looped g _ _ _) = absurd (differ _ f g)
     list_free f (told _ rule each) = record {
       accepted = accepted;
@@ -130,7 +133,7 @@ pub record StatesTaken (s states : List ℕ) : Type 0 where
   pub there : (u : ℕ) → Memᴰ u states → u < state_count (plan_body s)
   pub free : (u : ℕ) → Memᴰ u states → loop_free (plan_body s) u ≡ true
 
-pub states_taken : {s index states : List ℕ} → EachPrepared s index states → StatesTaken s states
+pub states_taken : {s : List ℕ} {index : Index} {states : List ℕ} → EachPrepared s index states → StatesTaken s states
 states_taken p = record { accepted = p.accepted; there = λ u m. (p.each u m).state_below; free = λ u m. (p.each u m).loop_free_holds }
 
 module _ {s states : List ℕ} (p : StatesTaken s states) (t : List ℕ) where
@@ -157,8 +160,13 @@ module _ {s states : List ℕ} (p : StatesTaken s states) (t : List ℕ) where
     unfolding count_right
     in_turn_miscounted g f = by_count s states t (passes g) (ne_eqb (stored_count s t) (filled_cells s t) f)
 
+  pub in_turn_turned_down : {x : QueryError} → TurnedDown s t x → QueriesInTurn s states t (Err x) t
+  in_turn_turned_down {x} (short e l) = rw e (in_turn_short l)
+  in_turn_turned_down {x} (over e l g) = rw e (in_turn_bad_byte l g)
+  in_turn_turned_down {x} (miscounted e l g f) = rw e (by_count s states t (passes l g) f)
+
 -- on a table that is taken
-module _ {s index states t : List ℕ} {cells stored : ℕ} (q : TurnsRequires s index states t cells stored) where
+module _ {s : List ℕ} {index : Index} {states t : List ℕ} {cells stored : ℕ} (p : EachPrepared s index states) (q : Taken s t cells stored) where
   abbrev held : List ℕ
   held = take cells t
 
@@ -169,7 +177,7 @@ module _ {s index states t : List ℕ} {cells stored : ℕ} (q : TurnsRequires s
   room = omega (arith, ap length held_cells, cells_length s t q.long)
 
   pub walk_asked : WalkRequires s index states held
-  walk_asked = record { prepared = q.prepared; room = room }
+  walk_asked = record { prepared = p; room = room }
 
   module _ {k n : ℕ} {left : List ℕ} (w : WalkedInTurn s states held k n left) where
     -- the count stays small
@@ -178,19 +186,19 @@ module _ {s index states t : List ℕ} {cells stored : ℕ} (q : TurnsRequires s
     turns_fit =
         let counted = eqb-true (stored_count s t) (filled_cells s t) q.count_right_holds in
         let few = count_le (cell_bytes s) (λ i. filled (byte_at t i)) in
-        omega (arith, q.stored_is, counted, few, size_small s q.prepared.accepted, w.few)
+        omega (arith, q.stored_is, counted, few, size_small s p.accepted, w.few)
 
     -- the cells that the walk leaves, and then the count after them
     pub in_turn_judged : (u : List ℕ) → u ≡ take cells (left ++ drop cells t) ++ (in_four_bytes (stored + n) ++ drop (cells + count_bytes) (left ++ drop cells t))
         → QueriesInTurn s states t (Ok (record { passed = k; visits = n })) u
     unfolding in_turn_of table_in_turn
     in_turn_judged u f =
-        let right = solved s q.prepared.accepted in
+        let right = solved s p.accepted in
         let whole : walk_in_turn s states held ≡ result_in_turn s states t =
-        walk_is q.prepared held room ∙ ap (λ (cells : List ℕ). walked_on cells) held_cells in
+        walk_is p held room ∙ ap (λ (cells : List ℕ). walked_on cells) held_cells in
         let same : length left ≡ length held =
-        ap length (w.left_is ∙ ap table (walk_is q.prepared held room)) ∙ fill_length right held (along right held conjunction (root_cells states)) in
-        let checked = passes (states_taken q.prepared) t q.long q.bytes_right_holds in
+        ap length (w.left_is ∙ ap table (walk_is p held room)) ∙ fill_length right held (along right held conjunction (root_cells states)) in
+        let checked = passes (states_taken p) t q.long q.bytes_right_holds in
         answers s states t (Ok (record { passed = k; visits = n })) u
         (rw (checked, q.count_right_holds)
         (ap₂ (λ (k n : ℕ). Ok (record { passed = k; visits = n })) (w.passed_is ∙ ap (λ (cells : List ℕ). passed_before (holds_on s cells) states) held_cells) (w.visits_are ∙ ap visits whole)))
@@ -198,4 +206,4 @@ module _ {s index states t : List ℕ} {cells stored : ℕ} (q : TurnsRequires s
         ∙ ap₂ (λ (l : List ℕ) (m : ℕ). table_with s l m t) (w.left_is ∙ ap table whole) (ap₂ ◌+◌ q.stored_is (w.visits_are ∙ ap visits whole))))
       where
         walked_on : List ℕ → Result
-        walked_on cells = walked (solved s q.prepared.accepted) cells conjunction (root_cells states)
+        walked_on cells = walked (solved s p.accepted) cells conjunction (root_cells states)

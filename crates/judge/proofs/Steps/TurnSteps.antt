@@ -17,6 +17,7 @@ use Rattle.rows.proofs.Solver.Walks.{query_answer, Solves, walked, walk_solves}
 use Rattle.rows.proofs.Solver.Solved.{Right, query_right}
 use Rattle.rows.proofs.Solver.QueryByRow.{walk_none}
 use Rattle.graph.specs.Explored.{StartsFrom}
+use Rattle.judge.specs.declared.index.Index.{Index}
 use Rattle.judge.specs.Cells.{Cell, cell, cell_bytes}
 use Rattle.judge.specs.Querying.{result_at}
 use Rattle.judge.specs.InTurn.{root_cells, passed_before}
@@ -121,7 +122,7 @@ after_visits_lem n (out v k t) = refl
 after_table : (n : ℕ) (r : Result) → table (after n r) ≡ table r
 after_table n (out v k t) = refl
 
-module _ {s index states : List ℕ} (p : EachPrepared s index states) where
+module _ {s : List ℕ} {index : Index} {states : List ℕ} (p : EachPrepared s index states) where
   pub root_at : (u : ℕ) → Memᴰ u states → ValidAt s (cell 0 0 u)
   root_at u m = root_valid (rule_kept s p.accepted) u (p.each u m).state_below (p.each u m).loop_free_holds
 
@@ -142,7 +143,7 @@ pub record QueriedTo (s states t : List ℕ) (i n : ℕ) (u : List ℕ) : Type 0
   pub long : length u ≡ length t
   pub same : (c : Cell) → ValidAt s c → solution_on s u c ≡ solution_on s t c
 
-module _ {s index states t : List ℕ} (q : WalkRequires s index states t) where
+module _ {s : List ℕ} {index : Index} {states t : List ℕ} (q : WalkRequires s index states t) where
   pub queried_start : QueriedTo s states t 0 0 t
   queried_start = record {
     within = omega arith;

@@ -15,8 +15,8 @@ use Rattle.calculus.specs.Decode.{action_formula}
 use Rattle.calculus.proofs.Masks.MeetingMask.{meeting_bit}
 use Rattle.sheet.proofs.Nodes.Children.{node_subtree}
 use Rattle.graph.specs.Successors.{successors}
+use Rattle.judge.specs.declared.index.Index.{Index}
 use Rattle.judge.specs.Cells.{Cell, cell, following, cell_bytes}
-use Rattle.graph.specs.Index.{actions_at}
 use Rattle.graph.specs.Explored.{first_from}
 use Rattle.judge.specs.Internal.Deciding.{FollowRequires, DecideRequires}
 use Rattle.judge.specs.Internal.Index.{Prepared, NodeAt, PreparedState, TransitionAt}
@@ -52,7 +52,7 @@ pub record TurnAt (s : List ℕ) (st first end i : ℕ) : Type 0 where
   pub within : i ≤ end
   pub few : end ≤ 2048
 
-module _ {s index t : List ℕ} {n st : ℕ} (f : FollowRequires s index t n st) where
+module _ {s : List ℕ} {index : Index} {t : List ℕ} {n st : ℕ} (f : FollowRequires s index t n st) where
   kept : WellFormedBodies (plan_body s) (actions_body s) (rule_body s)
   kept = bodies_kept s f.accepted
 
@@ -61,9 +61,6 @@ module _ {s index t : List ℕ} {n st : ℕ} (f : FollowRequires s index t n st)
 
   pub modal_node_at : NodeAt s index n
   modal_node_at = prepared_node f.accepted f.prepared f.node_below
-
-  pub state_small : st < 128
-  state_small = omega (arith, f.state_below, kept.plan_kept.few_states)
 
   pub state_at : PreparedState s index st
   state_at = f.prepared.states_are st (inl refl)
@@ -110,14 +107,14 @@ module _ {s index t : List ℕ} {n st : ℕ} (f : FollowRequires s index t n st)
       }
 
       -- the mask of the transition's action tells whether it meets the formula
-      pub met : {b : Bool} {mask lab e : ℕ} → b ≡ bit mask e → mask ≡ get_or index (actions_at + lab) 0
+      pub met : {b : Bool} {mask lab e : ℕ} → b ≡ bit mask e → mask ≡ get_or index.masks lab 0
           → lab ≡ label (plan_body s) i → e ≡ x_at s n → b ≡ meets_at s n i
       met {mask = mask} p q r x =
           p ∙ (ap (λ (y : ℕ). bit mask y) x ∙
-          (ap (λ (y : ℕ). bit y (x_at s n)) (q ∙ (ap (λ (y : ℕ). get_or index (actions_at + y) 0) r ∙ mask_is)) ∙
+          (ap (λ (y : ℕ). bit y (x_at s n)) (q ∙ (ap (λ (y : ℕ). get_or index.masks y 0) r ∙ mask_is)) ∙
           meeting_bit (action_count (plan_body s)) (actions_body s) (label (plan_body s) i) (x_at s n) kept.actions_kept.few modal.x_below))
         where
-          mask_is : get_or index (actions_at + label (plan_body s) i) 0
+          mask_is : get_or index.masks (label (plan_body s) i) 0
               ≡ meeting_mask (action_count (plan_body s)) (actions_body s) (label (plan_body s) i)
           mask_is = state_at.masks_are i from_here before_next
 

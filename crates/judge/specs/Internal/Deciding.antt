@@ -13,11 +13,12 @@ use Rattle.graph.specs.LoopTest.{settled}
 use Rattle.graph.specs.Successors.{successors}
 use Rattle.judge.specs.Cells.{Cell, MarkRight, following, cell_bytes}
 use Rattle.judge.specs.Querying.{result_at}
+use Rattle.judge.specs.declared.index.Index.{Index}
 use Rattle.judge.specs.Internal.Index.{Prepared}
 use Rattle.judge.specs.Internal.Packed.{verdict_in, visits_in, packed_bound, packed_limit}
 
 -- a cell of an accepted sheet, at a state from which no loop can be reached, with what is prepared and a table that has all cells
-pub record DecideRequires (s index t : List ℕ) (c : Cell) : Type 0 where
+pub record DecideRequires (s : List ℕ) (index : Index) (t : List ℕ) (c : Cell) : Type 0 where
   pub accepted : sheet_check s ≡ Ok tt
   pub prepared : Prepared s index c.state
   pub room : cell_bytes s ≤ length t
@@ -27,7 +28,7 @@ pub record DecideRequires (s index t : List ℕ) (c : Cell) : Type 0 where
   pub mark_right : MarkRight (rule_body s) c.mark c.node
 
 -- a "some" or "every" node at such a state
-pub record FollowRequires (s index t : List ℕ) (n state : ℕ) : Type 0 where
+pub record FollowRequires (s : List ℕ) (index : Index) (t : List ℕ) (n state : ℕ) : Type 0 where
   pub accepted : sheet_check s ≡ Ok tt
   pub prepared : Prepared s index state
   pub room : cell_bytes s ≤ length t

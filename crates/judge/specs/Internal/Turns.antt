@@ -7,10 +7,10 @@ use Rattle.rows.specs.Rows.{conjunction, value}
 use Rattle.rows.specs.Tables.{Result, visits, table, changed}
 use Rattle.rows.specs.Internal.Solver.{walk}
 use Rattle.graph.specs.Explored.{StartsFrom}
-use Rattle.judge.specs.Cells.{Cell, cell, written_rows, enough, position_of, cell_bytes, table_bytes}
-use Rattle.judge.specs.StoredCount.{stored_count}
-use Rattle.judge.specs.Querying.{bytes_right, count_right, result_at}
+use Rattle.judge.specs.Cells.{Cell, cell, written_rows, enough, position_of, cell_bytes}
+use Rattle.judge.specs.Querying.{result_at}
 use Rattle.judge.specs.InTurn.{root_cells, passed_before}
+use Rattle.judge.specs.declared.index.Index.{Index}
 use Rattle.judge.specs.Internal.Index.{QueryRequires}
 use Rattle.judge.specs.Internal.Preparing.{RuleTold}
 
@@ -31,7 +31,7 @@ pub data StatesMarked (states : List ℕ) (count : ℕ) (starts : List ℕ) (b :
       → StatesMarked states count starts b
 
 -- an accepted sheet, with what is prepared of its rule and for a query of each state of the list
-pub record EachPrepared (s index states : List ℕ) : Type 0 where
+pub record EachPrepared (s : List ℕ) (index : Index) (states : List ℕ) : Type 0 where
   pub accepted : sheet_check s ≡ Ok tt
   pub rule_told : RuleTold s index
   pub each : (u : ℕ) → Memᴰ u states → QueryRequires s index u
@@ -49,7 +49,7 @@ holds_on s cells state = solution_on s cells (cell 0 0 state)
 abbrev pub walk_in_turn : List ℕ → List ℕ → List ℕ → Result
 walk_in_turn s states cells = walk (result_at s) conjunction (root_cells states) cells
 
-pub record WalkRequires (s index states cells : List ℕ) : Type 0 where
+pub record WalkRequires (s : List ℕ) (index : Index) (states cells : List ℕ) : Type 0 where
   pub prepared : EachPrepared s index states
   pub room : cell_bytes s ≤ length cells
 
@@ -58,12 +58,3 @@ pub record WalkedInTurn (s states cells : List ℕ) (passed n : ℕ) (left : Lis
   pub visits_are : n ≡ visits (walk_in_turn s states cells)
   pub left_is : left ≡ table (walk_in_turn s states cells)
   pub few : n ≤ cell_bytes s
-
--- all prepared, and a table that is not refused
-pub record TurnsRequires (s index states t : List ℕ) (cells stored : ℕ) : Type 0 where
-  pub prepared : EachPrepared s index states
-  pub cells_are : cells ≡ cell_bytes s
-  pub long : table_bytes s ≤ length t
-  pub bytes_right_holds : bytes_right (cell_bytes s) t ≡ true
-  pub stored_is : stored ≡ stored_count s t
-  pub count_right_holds : count_right s t ≡ true

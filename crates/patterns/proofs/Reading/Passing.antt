@@ -6,10 +6,9 @@ use mathlib.Core.List.{List, [], ◌∷◌}
 use native.Mathlib.Numerals.{add-one}
 use native.Mathlib.Omega.{arith}
 use lib.Dec.{eqb, ltb, eqb-zero-suc, eqb-suc-zero, eqb-suc-suc}
-use lib.ListN.{length, drop, drop_of_length-le}
-use lib.Seq.{drop-cons}
+use lib.ListN.{length}
 use borrow.Author.Tests.{lt-ltb, le-ltb, ne_eqb}
-use Rattle.sheet.specs.Bytes.{byte, pick}
+use Rattle.sheet.specs.Bytes.{pick}
 use Rattle.patterns.specs.Patterns.{
   Pattern,
   sequence,
@@ -113,72 +112,63 @@ module _ (entries : ℕ) where
   byte_left_over (suc (suc (suc (suc b)))) rest = refl
 
   -- the leading byte
-  pub reading_passes : (p : List ℕ) → 1 ≤ length p → byte p 0 ≤ 1
-      → is_readable (reading_of entries p) ≡ has_parts 1 (parts_of entries (drop 1 p))
+  pub reading_passes : {p bytes : List ℕ} {b : ℕ} → p ≡ b ∷ bytes → b ≤ 1 → is_readable (reading_of entries p) ≡ has_parts 1 (parts_of entries bytes)
   unfolding reading_of
-  reading_passes [] some low = absurd (omega arith)
-  reading_passes (zero ∷ bytes) some low = whole false (parts_of entries bytes)
-  reading_passes (suc zero ∷ bytes) some low = whole true (parts_of entries bytes)
-  reading_passes (suc (suc b) ∷ bytes) some low = absurd (omega arith)
+  reading_passes {bytes = bytes} {b} q low = rw q (by b low)
+    where
+      by : (b : ℕ) → b ≤ 1 → is_readable (reading_of entries (b ∷ bytes)) ≡ has_parts 1 (parts_of entries bytes)
+      by zero low = whole false (parts_of entries bytes)
+      by (suc zero) low = whole true (parts_of entries bytes)
+      by (suc (suc b)) low = absurd (omega arith)
 
   pub reading_empty : (p : List ℕ) → length p < 1 → is_readable (reading_of entries p) ≡ false
   unfolding reading_of
   reading_empty [] none = refl
   reading_empty (b ∷ bytes) none = absurd (omega arith)
 
-  pub reading_unknown : (p : List ℕ) → 1 < byte p 0 → is_readable (reading_of entries p) ≡ false
+  pub reading_unknown : {p bytes : List ℕ} {b : ℕ} → p ≡ b ∷ bytes → 1 < b → is_readable (reading_of entries p) ≡ false
   unfolding reading_of
-  reading_unknown [] high = refl
-  reading_unknown (zero ∷ bytes) high = absurd (omega arith)
-  reading_unknown (suc zero ∷ bytes) high = absurd (omega arith)
-  reading_unknown (suc (suc b) ∷ bytes) high = refl
+  reading_unknown {bytes = bytes} {b} q high = rw q (by b high)
+    where
+      by : (b : ℕ) → 1 < b → is_readable (reading_of entries (b ∷ bytes)) ≡ false
+      by zero high = absurd (omega arith)
+      by (suc zero) high = absurd (omega arith)
+      by (suc (suc b)) high = refl
 
-  -- of the bytes p from place at on
-  module _ (p : List ℕ) (at : ℕ) where
-    -- the byte in front of the rest
-    front : at < length p → drop at p ≡ byte p at ∷ drop (at + 1) p
-    front h = rw (add-one, drop-cons p at 0)
+  -- of the bytes in front of others, with so many parts missing
+  module _ (rest : List ℕ) where
+    pub passes_left_over : (b : ℕ) (bytes : List ℕ) → rest ≡ b ∷ bytes → has_parts 0 (parts_of entries rest) ≡ false
+    passes_left_over b bytes q = rw q (byte_left_over b bytes)
 
-    -- with the entry's number after it
-    front_entry : at + 1 < length p → drop (at + 1) p ≡ byte p (at + 1) ∷ drop (at + 2) p
-    front_entry h = let q : at + 2 ≡ suc (at + 1) = omega arith in rw (q, drop-cons p (at + 1) 0)
-
-    pub passes_left_over : at < length p → has_parts 0 (parts_of entries (drop at p)) ≡ false
-    passes_left_over inside = rw (front inside) (byte_left_over (byte p at) (drop (at + 1) p))
-
-    -- with so many parts missing
-    module _ (missing : ℕ) where
-      pub passes_action : byte p at ≡ 0 → at + 1 < length p → byte p (at + 1) < entries → 1 ≤ missing
-          → has_parts missing (parts_of entries (drop at p)) ≡ has_parts (missing - 1) (parts_of entries (drop (at + 2) p))
+    module _ (missing : ℕ) (bytes : List ℕ) where
+      pub passes_action : (e : ℕ) → rest ≡ 0 ∷ e ∷ bytes → e < entries → 1 ≤ missing
+          → has_parts missing (parts_of entries rest) ≡ has_parts (missing - 1) (parts_of entries bytes)
       unfolding parts_of
-      passes_action z h below due =
-          let inside : at < length p = omega arith in
-          rw (front inside, z, front_entry h, lt-ltb (byte p (at + 1)) entries below)
-          (has_action (byte p (at + 1)) missing due (parts_of entries (drop (at + 2) p)))
+      passes_action e q below due = rw (q, lt-ltb e entries below) (has_action e missing due (parts_of entries bytes))
 
-      pub passes_high_entry : byte p at ≡ 0 → at + 1 < length p → entries ≤ byte p (at + 1)
-          → has_parts missing (parts_of entries (drop at p)) ≡ false
+      pub passes_high_entry : (e : ℕ) → rest ≡ 0 ∷ e ∷ bytes → entries ≤ e → has_parts missing (parts_of entries rest) ≡ false
       unfolding parts_of
-      passes_high_entry z h high =
-          let inside : at < length p = omega arith in
-          rw (front inside, z, front_entry h, le-ltb (byte p (at + 1)) entries high)
+      passes_high_entry e q high = rw (q, le-ltb e entries high)
 
-      pub passes_cut : at < length p → byte p at ≡ 0 → length p ≤ at + 1 → has_parts missing (parts_of entries (drop at p)) ≡ false
+      pub passes_two : (b : ℕ) → rest ≡ b ∷ bytes → 1 ≤ b → b ≤ 2 → 1 ≤ missing
+          → has_parts missing (parts_of entries rest) ≡ has_parts (missing + 1) (parts_of entries bytes)
+      passes_two b q low high due = rw q (byte_two missing b bytes low high due)
+
+      pub passes_one : rest ≡ 3 ∷ bytes → 1 ≤ missing → has_parts missing (parts_of entries rest) ≡ has_parts missing (parts_of entries bytes)
       unfolding parts_of
-      passes_cut inside z cut = rw (front inside, z, drop_of_length-le p cut)
+      passes_one q due = rw q (has_one repetition missing due (parts_of entries bytes))
 
-      pub passes_two : at < length p → 1 ≤ byte p at → byte p at ≤ 2 → 1 ≤ missing
-          → has_parts missing (parts_of entries (drop at p)) ≡ has_parts (missing + 1) (parts_of entries (drop (at + 1) p))
-      passes_two inside low high due = rw (front inside) (byte_two missing (byte p at) (drop (at + 1) p) low high due)
+      pub passes_unknown : (b : ℕ) → rest ≡ b ∷ bytes → 4 ≤ b → has_parts missing (parts_of entries rest) ≡ false
+      passes_unknown b q high = rw q (byte_unknown missing b bytes high)
 
-      pub passes_one : at < length p → byte p at ≡ 3 → 1 ≤ missing
-          → has_parts missing (parts_of entries (drop at p)) ≡ has_parts missing (parts_of entries (drop (at + 1) p))
-      unfolding parts_of
-      passes_one inside three due = rw (front inside, three) (has_one repetition missing due (parts_of entries (drop (at + 1) p)))
+    pub passes_cut : (missing : ℕ) → rest ≡ 0 ∷ [] → has_parts missing (parts_of entries rest) ≡ false
+    unfolding parts_of
+    passes_cut missing q = rw q refl
 
-      pub passes_unknown : at < length p → 4 ≤ byte p at → has_parts missing (parts_of entries (drop at p)) ≡ false
-      passes_unknown inside high = rw (front inside) (byte_unknown missing (byte p at) (drop (at + 1) p) high)
-
-      pub passes_end : length p ≤ at → has_parts missing (parts_of entries (drop at p)) ≡ eqb missing 0
-      unfolding parts_of
-      passes_end end = rw (drop_of_length-le p end) (none_missing missing)
+    pub passes_end : (missing : ℕ) → length rest ≤ 0 → has_parts missing (parts_of entries rest) ≡ eqb missing 0
+    unfolding parts_of
+    passes_end missing end = by rest end
+      where
+        by : (rest : List ℕ) → length rest ≤ 0 → has_parts missing (parts_of entries rest) ≡ eqb missing 0
+        by [] end = none_missing missing
+        by (b ∷ rest) end = absurd (omega arith)

@@ -27,9 +27,9 @@ use Rattle.patterns.specs.Translating.{
   leaves,
   output_after,
   reported_translation,
+  Translated,
 }
-use Rattle.patterns.specs.declared.Translated.{Translated}
-use Rattle.patterns.specs.declared.Translated.TheVariants.{Wrote, Malformed, TooLarge, Refused}
+use Rattle.patterns.specs.declared.TranslateError.TheVariants.{Malformed, TooLarge, Refused}
 
 too_large : (t : Tree) → (64 < tree_size t) ⊎ (6 < binders t) → small_enough t ≡ false
 too_large t (inl h) = ap (λ (b : Bool). b && leb (binders t) 6) (lt-leb (tree_size t) 64 h)
@@ -44,23 +44,23 @@ small-enough t n b = rw (le-leb (tree_size t) 64 n, le-leb (binders t) 6 b)
 
 -- what a tree that does not fit, or has no room, or has it is answered with
 module _ (t : Tree) (room : ℕ) where
-  pub tree_large : (64 < tree_size t) ⊎ (6 < binders t) → answer_tree t room ≡ TooLarge
+  pub tree_large : (64 < tree_size t) ⊎ (6 < binders t) → answer_tree t room ≡ Err TooLarge
   tree_large over = rw (too_large t over)
 
   module _ (nodes : tree_size t ≤ 64) (bound : binders t ≤ 6) where
-    pub tree_short : room < length (encode t) → answer_tree t room ≡ Refused OutputShort
+    pub tree_short : room < length (encode t) → answer_tree t room ≡ Err (Refused OutputShort)
     tree_short less = rw (small-enough t nodes bound, lt-leb (length (encode t)) room less)
 
-    pub tree_wrote : length (encode t) ≤ room → answer_tree t room ≡ Wrote (length (encode t))
+    pub tree_wrote : length (encode t) ≤ room → answer_tree t room ≡ Ok (length (encode t))
     tree_wrote enough = rw (small-enough t nodes bound, le-leb (length (encode t)) room enough)
 
 -- a refused call leaves the output as it was
 unchanged : (body out : List ℕ) (answer : Translated) → (reported_translation answer).number ≢ 0
     → ((reported_translation answer).size ≡ 0) × (leaves body out answer ≡ out)
-unchanged body out (Wrote n) h = absurd (h refl)
-unchanged body out Malformed h = (refl, refl)
-unchanged body out TooLarge h = (refl, refl)
-unchanged body out (Refused x) h = (refl, refl)
+unchanged body out (Ok n) h = absurd (h refl)
+unchanged body out (Err Malformed) h = (refl, refl)
+unchanged body out (Err TooLarge) h = (refl, refl)
+unchanged body out (Err (Refused x)) h = (refl, refl)
 
 module _ (s p : List ℕ) where
   -- what the pattern says on the sheet
@@ -72,33 +72,33 @@ module _ (s p : List ℕ) where
     unfolding translated_of
     sheet_answer c e = ap (λ (x : Check). answer_sheet s p x room) e
 
-    pub answers_refused : {x : Refusal} → sheet_check s ≡ Err x → translated_of s p room ≡ Refused x
+    pub answers_refused : {x : Refusal} → sheet_check s ≡ Err x → translated_of s p room ≡ Err (Refused x)
     answers_refused {x} e = sheet_answer (Err x) e
 
     module _ (passed : sheet_check s ≡ Ok tt) where
       reading_answer : (r : Reading) → reading_on ≡ r → translated_of s p room ≡ answer_reading s r room
       reading_answer r q = sheet_answer (Ok tt) passed ∙ ap (λ (x : Reading). answer_reading s x room) q
 
-      pub answers_malformed : reading_on ≡ malformed → translated_of s p room ≡ Malformed
+      pub answers_malformed : reading_on ≡ malformed → translated_of s p room ≡ Err Malformed
       answers_malformed q = reading_answer malformed q
 
       module _ {every : Bool} {R : Pattern} (read : reading_on ≡ readable every R) where
         pub tree_answer : translated_of s p room ≡ answer_tree (tree_for s every R) room
         tree_answer = reading_answer (readable every R) read
 
-        pub answers_large : (64 < tree_size (tree_for s every R)) ⊎ (6 < binders (tree_for s every R)) → translated_of s p room ≡ TooLarge
+        pub answers_large : (64 < tree_size (tree_for s every R)) ⊎ (6 < binders (tree_for s every R)) → translated_of s p room ≡ Err TooLarge
         answers_large over = tree_answer ∙ tree_large (tree_for s every R) room over
 
         module _ (nodes : tree_size (tree_for s every R) ≤ 64) (bound : binders (tree_for s every R) ≤ 6) where
-          pub answers_short : room < length (encode (tree_for s every R)) → translated_of s p room ≡ Refused OutputShort
+          pub answers_short : room < length (encode (tree_for s every R)) → translated_of s p room ≡ Err (Refused OutputShort)
           answers_short less = tree_answer ∙ tree_short (tree_for s every R) room nodes bound less
 
           pub answers_wrote : length (encode (tree_for s every R)) ≤ room
-              → translated_of s p room ≡ Wrote (length (encode (tree_for s every R)))
+              → translated_of s p room ≡ Ok (length (encode (tree_for s every R)))
           answers_wrote enough = tree_answer ∙ tree_wrote (tree_for s every R) room nodes bound enough
 
   module _ (out : List ℕ) where
-    pub leaves_written : {every : Bool} {R : Pattern} → reading_on ≡ readable every R → (n : ℕ) → translated_of s p (length out) ≡ Wrote n
+    pub leaves_written : {every : Bool} {R : Pattern} → reading_on ≡ readable every R → (n : ℕ) → translated_of s p (length out) ≡ Ok n
         → output_after s p out ≡ encode (tree_for s every R) ++ drop n out
     unfolding output_after
     leaves_written read n wrote = rw (read, wrote)

@@ -22,7 +22,7 @@ use Rattle.sheet.proofs.Acceptance.Order.{refusals_in_order, sheet_range}
 use Rattle.sheet.proofs.Acceptance.Sheet.{accepted_iff}
 use Rattle.calculus.specs.Trees.{tree_size, binders, encode}
 use Rattle.patterns.specs.Patterns.{Pattern, Reading, malformed, readable}
-use Rattle.patterns.specs.Translating.{tree_for, translated_of, reported_translation, translation_report_of, output_after}
+use Rattle.patterns.specs.Translating.{Translated, tree_for, translated_of, reported_translation, translation_report_of, output_after}
 use Rattle.patterns.specs.TranslationCorrect.{
   Says,
   Fits,
@@ -32,8 +32,7 @@ use Rattle.patterns.specs.TranslationCorrect.{
   TranslationAnswered,
   TranslationCorrect,
 }
-use Rattle.patterns.specs.declared.Translated.{Translated}
-use Rattle.patterns.specs.declared.Translated.TheVariants.{Wrote, Malformed, TooLarge, Refused}
+use Rattle.patterns.specs.declared.TranslateError.TheVariants.{Malformed, TooLarge, Refused}
 use Rattle.patterns.proofs.Reading.Readings.{readings_exactly}
 use Rattle.patterns.proofs.Statements.Answers.{
   reading_on,
@@ -119,7 +118,7 @@ module _ (s p : List ℕ) where
             → ((reported_check (sheet_check s)).number ≡ k) × ((reported_check (sheet_check s)).place ≡ m) → Reports k m
         by_check (Ok tt) e low q = absurd (omega (arith, q.0, ap (λ (c : Check). (reported_check c).number) e))
         by_check (Err x) e low q =
-            let r = reports (Refused x) (refused_number x) (answers_refused s p room e) in (
+            let r = reports (Err (Refused x)) (refused_number x) (answers_refused s p room e) in (
               low,
               r.1 ∙ sym (ap (λ (c : Check). (reported_check c).number) e) ∙ q.0,
               r.2 ∙ sym (ap (λ (c : Check). (reported_check c).place) e) ∙ q.1,
@@ -127,20 +126,20 @@ module _ (s p : List ℕ) where
 
     malformed_reports : WellFormedSheet s → ((every : Bool) (R : Pattern) → Says s p every R → ⊥)
         → (r : Reading) → reading_on s p ≡ r → Reports 30 0
-    malformed_reports kept none malformed q = reports Malformed (omega arith) (answers_malformed s p room (passed kept) q)
+    malformed_reports kept none malformed q = reports (Err Malformed) (omega arith) (answers_malformed s p room (passed kept) q)
     malformed_reports kept none (readable every R) q = absurd (none every R (says kept q))
 
     refused_reports : {k m : ℕ} → RefusedWith s p room k m → Reports k m
     refused_reports (RefusedWith.faulty_sheet f) = sheet_reports f (sheet_check s) refl
     refused_reports (RefusedWith.unreadable kept none) = malformed_reports kept none (reading_on s p) refl
     refused_reports (RefusedWith.large every R h over) =
-        reports TooLarge (omega arith) (answers_large s p room (passed h.accepted) (read_as h) over)
+        reports (Err TooLarge) (omega arith) (answers_large s p room (passed h.accepted) (read_as h) over)
     refused_reports (RefusedWith.output_short every R h f less) =
-        reports (Refused OutputShort) (omega arith)
+        reports (Err (Refused OutputShort)) (omega arith)
         (answers_short s p room (passed h.accepted) (read_as h) f.few_nodes f.few_binders less)
 
     wrote : {every : Bool} {R : Pattern} → AcceptedWith s p room every R
-        → translated_of s p room ≡ Wrote (length (encode (tree_for s every R)))
+        → translated_of s p room ≡ Ok (length (encode (tree_for s every R)))
     wrote x =
         let h = x.says in
         answers_wrote s p room (passed h.accepted) (read_as h) x.fits.few_nodes x.fits.few_binders x.room_enough

@@ -11,8 +11,7 @@ use Rattle.patterns.specs.Translation.{raised}
 use Rattle.patterns.specs.Internal.SecondParts.{PartAt, Noted}
 use Rattle.patterns.specs.Internal.Nodes.{variable_fields, with_node, Progressed}
 use Rattle.patterns.specs.Internal.Putting.{every_of, Follows, PartRequires, PartPut, AfterRequires, AfterPut}
-use Rattle.patterns.specs.declared.Progress.{Progress}
-use Rattle.patterns.specs.declared.Progress.TheVariants.{Made, Exceeded}
+use Rattle.patterns.specs.Internal.Nodes.{Progress, Made, Exceeded}
 use Rattle.patterns.proofs.Steps.Parts.{part_some, part_inside}
 use Rattle.patterns.proofs.Steps.Growing.{full_exceeded, grow_variable}
 
@@ -54,7 +53,6 @@ module _ {r p seconds slots : List ℕ} {after n b : ℕ} {out : List ℕ} where
         go (Follows.variable o' l e' s) = absurd (omega arith)
         go (Follows.part {j = j} {end = end} {Q = Q} {k = k} o' l e' m f q s u g) = record {
           making = h.making;
-          leading = h.leading;
           short = h.short;
           room = h.room;
           pattern = Q;

@@ -12,20 +12,17 @@ use lib.Seq.{drop_at, length-take-le}
 use Rattle.sheet.specs.Bytes.{byte}
 use Rattle.sheet.specs.Rule.{one_if}
 use Rattle.calculus.specs.Trees.{Tree, tree_size, binders, nodes_from, encode, tree_of}
-use Rattle.calculus.proofs.Trees.Stands.{flag_small}
 use Rattle.calculus.proofs.Trees.Encoding.{nodes_length}
 use Rattle.patterns.specs.Patterns.{Pattern, written, pattern_bytes}
 use Rattle.patterns.specs.Translation.{raised, before, translation}
-use Rattle.patterns.specs.Translating.{answer_tree, leaves}
+use Rattle.patterns.specs.Translating.{Translated, answer_tree, leaves}
 use Rattle.patterns.specs.Internal.SecondParts.{PartAt, AnyPlace, PartHere, SecondsNoted}
 use Rattle.patterns.specs.Internal.Nodes.{Followed, Exceeds, Progressed}
 use Rattle.patterns.specs.Internal.Putting.{every_of, Follows, PartRequires, PartPut}
 use Rattle.patterns.specs.Internal.Answering.{BodyWritten, Readable, BodyAnswered}
-use Rattle.patterns.specs.declared.Progress.{Progress}
-use Rattle.patterns.specs.declared.Progress.TheVariants.{Made, Exceeded}
-use Rattle.patterns.specs.declared.Translated.{Translated}
-use Rattle.patterns.specs.declared.Translated.TheVariants.{Wrote, TooLarge, Refused}
-use Rattle.sheet.specs.declared.Refusal.TheVariants.{OutputShort}
+use Rattle.patterns.specs.Internal.Nodes.{Progress, Made, Exceeded}
+use Rattle.std.proofs.Common.{Ok, Err}
+use Rattle.patterns.specs.declared.TranslateError.TheVariants.{TooLarge}
 use Rattle.patterns.proofs.Translation.Sizes.{short_pattern}
 use Rattle.patterns.proofs.Statements.Answers.{tree_large, tree_short, tree_wrote}
 use Rattle.patterns.proofs.Steps.Parts.{written_part_lem}
@@ -58,13 +55,6 @@ module _ {t : Tree} {made made' : List ℕ} {n b : ℕ} (f : Followed t 0 0 made
   unfolding encode
   body_length = let i = nodes_length 0 t in omega (arith, f.nodes_are)
 
-pub body_short : {made out : List ℕ} {n : ℕ} → length out < 1 + 3 * n → BodyWritten made n out (Refused OutputShort) out
-body_short l = record { wrote = λ u. absurd (omega arith); short = λ u. (refl, refl) }
-
-pub body_wrote : {made out out' : List ℕ} {n : ℕ} → 1 + 3 * n ≤ length out → out' ≡ (n ∷ drop 1 (take (1 + 3 * n) made)) ++ drop (1 + 3 * n) out
-    → BodyWritten made n out (Wrote (1 + 3 * n)) out'
-body_wrote l q = record { wrote = λ u. (refl, q); short = λ u. absurd (omega arith) }
-
 module _ {r p : List ℕ} (h : Readable r p) where
   pub here_whole : length p ≤ 189 → {seconds : List ℕ} → length seconds ≡ 189 → PartHere p 1 seconds
   here_whole l s = record { pattern = h.pattern; end = length p; part = whole_part p h.every h.pattern h.bytes; short = l; room = s }
@@ -84,7 +74,6 @@ module _ {r p : List ℕ} (h : Readable r p) where
         few_binders = omega arith;
         room = o;
       };
-      leading = subst (λ (b : ℕ). b ≤ 1) (sym (leading_is p h.every h.pattern h.bytes)) (flag_small h.every);
       short = l;
       room = s;
       pattern = h.pattern;
@@ -103,7 +92,7 @@ module _ {r p : List ℕ} (h : Readable r p) where
           (g.made R (length p) (λ n. raised n (tree_of r)) (m.noted R (length p) (whole_part p every R q)) (rule_follows slots))
 
       -- it does not fit
-      pub answered_exceeded : x ≡ Exceeded → (out : List ℕ) → BodyAnswered r p out TooLarge out
+      pub answered_exceeded : x ≡ Exceeded → (out : List ℕ) → BodyAnswered r p out (Err TooLarge) out
       answered_exceeded e out = record {
         answer = λ every R q. sym (tree_large (translation every R (tree_of r)) (length out)
             (over (subst (Progressed (translation every R (tree_of r)) 0 0 made made') e (whole_made every R q))));
@@ -141,13 +130,13 @@ module _ {r p : List ℕ} (h : Readable r p) where
                       (k.0 ∙ sym (tree_short t (length out) nodes bound (omega (arith, body_length f))), k.1 ∙ ap (leaves (encode t) out) (sym k.0))
                   | no g ↦
                       let k = w.wrote (omega arith) in (
-                        k.0 ∙ ap Wrote (sym (body_length f)) ∙ sym (tree_wrote t (length out) nodes bound (omega (arith, body_length f))),
+                        k.0 ∙ ap Ok (sym (body_length f)) ∙ sym (tree_wrote t (length out) nodes bound (omega (arith, body_length f))),
                         k.1 ∙ ap (λ (v : List ℕ). v ++ drop (1 + 3 * n) out) (body_encoded f o) ∙ ap (leaves (encode t) out) (sym k.0),
                       )
                 ]
 
   -- a pattern too long to become 64 nodes
-  pub answered_long : 189 < length p → (out : List ℕ) → BodyAnswered r p out TooLarge out
+  pub answered_long : 189 < length p → (out : List ℕ) → BodyAnswered r p out (Err TooLarge) out
   answered_long l out = record {
     answer = λ every R q. sym (tree_large (translation every R (tree_of r)) (length out) (inl (over every R q)));
     left = λ every R q. refl;

@@ -12,11 +12,10 @@ use Rattle.std.specs.Prelude.{Err, Ok}
 use Rattle.sheet.specs.declared.Refusal.{Refusal}
 use Rattle.sheet.proofs.Acceptance.Parts.{actions_kept, rule_kept}
 use Rattle.patterns.specs.Patterns.{Reading, malformed, readable, reading_of}
-use Rattle.patterns.specs.Translating.{body_of, leaves, output_after, translated_of, reported_translation, Translates}
+use Rattle.patterns.specs.Translating.{Translated, body_of, leaves, output_after, translated_of, reported_translation, Translates}
 use Rattle.patterns.specs.Internal.Passing.{is_readable}
 use Rattle.patterns.specs.Internal.Answering.{Readable, BodyAnswered}
-use Rattle.patterns.specs.declared.Translated.{Translated}
-use Rattle.patterns.specs.declared.Translated.TheVariants.{Malformed, Refused}
+use Rattle.patterns.specs.declared.TranslateError.TheVariants.{Malformed, Refused}
 use Rattle.patterns.proofs.Reading.Passing.{readable_bytes}
 use Rattle.patterns.proofs.Reading.Readings.{readings_exactly}
 use Rattle.patterns.proofs.Statements.Answers.{reading_on, answers_refused, answers_malformed, tree_answer}
@@ -32,11 +31,11 @@ pub readable_is : (s p : List ℕ) {a : List ℕ} {entries : ℕ} {b c : Bool} �
     → b ≡ c → is_readable (reading_on s p) ≡ c
 readable_is s p i j k l = ap (λ (n : ℕ). is_readable (reading_of n p)) (sym (j ∙ ap entry_count i)) ∙ sym k ∙ l
 
-pub translates_refused : (s p out : List ℕ) {x : Refusal} → sheet_check s ≡ Err x → Translates s p out (Refused x) out
-translates_refused s p out {x} e = answered s p out (Refused x) (sym (answers_refused s p (length out) e)) refl
+pub translates_refused : (s p out : List ℕ) {x : Refusal} → sheet_check s ≡ Err x → Translates s p out (Err (Refused x)) out
+translates_refused s p out {x} e = answered s p out (Err (Refused x)) (sym (answers_refused s p (length out) e)) refl
 
-pub translates_malformed : (s p out : List ℕ) → sheet_check s ≡ Ok tt → is_readable (reading_on s p) ≡ false → Translates s p out Malformed out
-translates_malformed s p out passed q = answered s p out Malformed (sym (answers_malformed s p (length out) passed (none (reading_on s p) q))) refl
+pub translates_malformed : (s p out : List ℕ) → sheet_check s ≡ Ok tt → is_readable (reading_on s p) ≡ false → Translates s p out (Err Malformed) out
+translates_malformed s p out passed q = answered s p out (Err Malformed) (sym (answers_malformed s p (length out) passed (none (reading_on s p) q))) refl
   where
     none : (r : Reading) → is_readable r ≡ false → r ≡ malformed
     none malformed e = refl

@@ -12,14 +12,13 @@ use Rattle.patterns.specs.Translation.{before}
 use Rattle.patterns.specs.Internal.SecondParts.{PartAt, Noted}
 use Rattle.patterns.specs.Internal.Nodes.{pair_fields, with_node, Followed, Progressed}
 use Rattle.patterns.specs.Internal.Putting.{every_of, Follows, PartRequires, PartPut}
-use Rattle.patterns.specs.declared.Progress.{Progress}
-use Rattle.patterns.specs.declared.Progress.TheVariants.{Made, Exceeded}
+use Rattle.patterns.specs.Internal.Nodes.{Progress, Made, Exceeded}
 use Rattle.patterns.proofs.Steps.Parts.{part_some, part_inside, by_choice}
 use Rattle.patterns.proofs.Steps.SecondSteps.{Two, two_inside}
 use Rattle.patterns.proofs.Steps.Patching.{with_node_length}
 use Rattle.patterns.proofs.Steps.Growing.{exceeds_first, grow_pair}
 use Rattle.patterns.proofs.Steps.Follow.{follows_floor, follows_agree}
-use Rattle.patterns.proofs.Steps.PartSteps.{flag_byte, making_on}
+use Rattle.patterns.proofs.Steps.PartSteps.{making_on}
 
 -- what progress that has been told says
 pub told_followed : {t : Tree} {n b : ℕ} {out out' : List ℕ} {x : Progress} {n' b' : ℕ} → Progressed t n b out out' x → x ≡ Made n' b' → Followed t n b out out' n' b'
@@ -35,7 +34,6 @@ module _ {r p seconds slots : List ℕ} {at after n b : ℕ} {out : List ℕ} (h
   pub call_first : n < 64 → PartRequires r p seconds slots (at + 1) after (n + 1) b out
   call_first l = record {
     making = making_on h.making (n + 1) b refl (omega arith) h.making.few_binders;
-    leading = h.leading;
     short = h.short;
     room = h.room;
     pattern = parts.first;
@@ -62,7 +60,7 @@ module _ {r p seconds slots : List ℕ} {at after n b : ℕ} {out : List ℕ} (h
         over t (Progressed.exceeded d) = Progressed.exceeded (exceeds_first n b (every_of p) t d)
 
     -- it fits: the pair is put over it, and the second part comes next
-    module _ {n₁ b₁ : ℕ} (e : x₁ ≡ Made n₁ b₁) {out₂ : List ℕ} (w : out₂ ≡ with_node out₁ n (pair_fields (byte p 0) n n₁)) where
+    module _ {n₁ b₁ : ℕ} (e : x₁ ≡ Made n₁ b₁) {out₂ : List ℕ} (w : out₂ ≡ with_node out₁ n (pair_fields (every_of p) n n₁)) where
       first_is : Followed (before (every_of p) parts.first h.next b) (n + 1) b out out₁ n₁ b₁
       first_is = told_followed (g.made parts.first parts.m h.next parts.part_first (follows_floor (omega (arith, part_some parts.part_second)) h.follows)) e
 
@@ -82,8 +80,7 @@ module _ {r p seconds slots : List ℕ} {at after n b : ℕ} {out : List ℕ} (h
 
       pub call_second : PartRequires r p seconds slots₁ (byte seconds at) after n₁ b₁ out₂
       call_second = record {
-        making = making_on h.making n₁ b₁ (ap length w ∙ with_node_length out₁ n (pair_fields (byte p 0) n n₁) ∙ first_is.sized) first_is.few_nodes first_is.few_binders;
-        leading = h.leading;
+        making = making_on h.making n₁ b₁ (ap length w ∙ with_node_length out₁ n (pair_fields (every_of p) n n₁) ∙ first_is.sized) first_is.few_nodes first_is.few_binders;
         short = h.short;
         room = g.sized ∙ h.room;
         pattern = parts.second;
@@ -104,7 +101,7 @@ module _ {r p seconds slots : List ℕ} {at after n b : ℕ} {out : List ℕ} (h
             let second = d.made T end k (at_second s t) (still_follows f) in
             grow_pair out h.making.room n b (every_of p) first
             (subst (λ (v : List ℕ). Progressed (before (every_of p) T k (b + binders (before (every_of p) Q k b))) n₁ b₁ v out₃ x₂)
-            (w ∙ ap (λ (c : ℕ). with_node out₁ n (pair_fields c n n₁)) (flag_byte p h.leading))
+            w
             (subst (λ (v : ℕ). Progressed (before (every_of p) T k v) n₁ b₁ out₂ out₃ x₂) first.binders_are second)))
             q;
         same = λ i l. d.same i (omega (arith, second_bounds)) ∙ g.same i (omega arith);

@@ -11,7 +11,7 @@ use Rattle.calculus.specs.Trees.{Tree, tree_size, binders, nodes_from, pair, mod
 use Rattle.calculus.proofs.Trees.Stands.{size_some}
 use Rattle.calculus.proofs.Trees.Encoding.{nodes_length}
 use Rattle.patterns.specs.Internal.Nodes.{pair_fields, modal_fields, variable_fields, binder_fields, with_node, Followed, Exceeds, Progressed}
-use Rattle.patterns.specs.declared.Progress.{Progress}
+use Rattle.patterns.specs.Internal.Nodes.{Progress}
 use Rattle.patterns.proofs.Steps.Copying.{node_bytes}
 use Rattle.patterns.proofs.Steps.Patching.{with_node_length, node_before, node_last}
 
@@ -71,9 +71,9 @@ module _ (out : List ℕ) (room : length out ≡ 193) (n b : ℕ) where
 
   -- the front of the body when a pair is put over its first child
   front_pair : (every : Bool) {l : Tree} {out₁ : List ℕ} {n₁ b₁ : ℕ} → Followed l (n + 1) b out out₁ n₁ b₁
-      → take (1 + 3 * n₁) (with_node out₁ n (pair_fields (one_if every) n n₁)) ≡ take (1 + 3 * n) out ++ node_bytes (pair_fields (one_if every) n n₁) (nodes_from (suc n) l)
+      → take (1 + 3 * n₁) (with_node out₁ n (pair_fields every n n₁)) ≡ take (1 + 3 * n) out ++ node_bytes (pair_fields every n n₁) (nodes_from (suc n) l)
   front_pair every {l} {out₁} {n₁} h =
-      let f = pair_fields (one_if every) n n₁ in
+      let f = pair_fields every n n₁ in
       let i : n + 1 ≡ suc n = omega arith in
       let k = nodes_length (suc n) l in
       let m : 1 + 3 * suc n + length (nodes_from (suc n) l) ≡ 1 + 3 * n₁ = omega (arith, h.nodes_are) in
@@ -83,11 +83,11 @@ module _ (out : List ℕ) (room : length out ≡ 193) (n b : ℕ) where
 
   -- a pair, put over its first child before the second
   pub grow_pair : (every : Bool) {l r : Tree} {out₁ out' : List ℕ} {n₁ b₁ : ℕ} {x : Progress} → Followed l (n + 1) b out out₁ n₁ b₁
-      → Progressed r n₁ b₁ (with_node out₁ n (pair_fields (one_if every) n n₁)) out' x → Progressed (pair every l r) n b out out' x
+      → Progressed r n₁ b₁ (with_node out₁ n (pair_fields every n n₁)) out' x → Progressed (pair every l r) n b out out' x
   unfolding tree_size binders nodes_from
   grow_pair every {l} {r} h (Progressed.exceeded g) = Progressed.exceeded (exceeds_second n b every r h.nodes_are h.binders_are g)
   grow_pair every {l} {r} {out₁} {out'} {n₁} h (Progressed.followed {n'} {b'} g) =
-      let f = pair_fields (one_if every) n n₁ in
+      let f = pair_fields every n n₁ in
       let i : n + 1 ≡ suc n = omega arith in
       let j : n₁ ≡ suc n + tree_size l = omega (arith, h.nodes_are) in
       Progressed.followed {n' = n'} {b' = b'} (record {
@@ -105,15 +105,15 @@ module _ (out : List ℕ) (room : length out ≡ 193) (n b : ℕ) where
 
   -- a modality and a binder, put before the child
   pub grow_modal : n < 64 → (every : Bool) (e : ℕ) {t : Tree} {out' : List ℕ} {x : Progress}
-      → Progressed t (n + 1) b (with_node out n (modal_fields (one_if every) n e)) out' x → Progressed (modal every e t) n b out out' x
+      → Progressed t (n + 1) b (with_node out n (modal_fields every n e)) out' x → Progressed (modal every e t) n b out out' x
   unfolding tree_size binders nodes_from
   grow_modal l every e {t} h =
       let i : suc n ≡ n + 1 = omega arith in
-      grow_over l (modal_fields (one_if every) n e) b refl refl (ap (λ (m : ℕ). (4 + one_if every) ∷ e ∷ m ∷ nodes_from (suc n) t) i) h
+      grow_over l (modal_fields every n e) b refl refl (ap (λ (m : ℕ). (4 + one_if every) ∷ e ∷ m ∷ nodes_from (suc n) t) i) h
 
   pub grow_binder : n < 64 → (every : Bool) {t : Tree} {out' : List ℕ} {x : Progress}
-      → Progressed t (n + 1) (b + 1) (with_node out n (binder_fields (one_if every) n b)) out' x → Progressed (binder every b t) n b out out' x
+      → Progressed t (n + 1) (b + 1) (with_node out n (binder_fields every n b)) out' x → Progressed (binder every b t) n b out out' x
   unfolding tree_size binders nodes_from
   grow_binder l every {t} h =
       let i : suc n ≡ n + 1 = omega arith in
-      grow_over l (binder_fields (one_if every) n b) (b + 1) refl (omega arith) (ap (λ (m : ℕ). (7 + one_if every) ∷ b ∷ m ∷ nodes_from (suc n) t) i) h
+      grow_over l (binder_fields every n b) (b + 1) refl (omega arith) (ap (λ (m : ℕ). (7 + one_if every) ∷ b ∷ m ∷ nodes_from (suc n) t) i) h

@@ -1,33 +1,21 @@
 -- The courses of putting a part: what each call of it is given, and what comes of it. A sequence, an action, and where there is no room.
 use Prim.Native.Nat.{ℕ, ◌+◌, ◌<◌, ◌≤◌}
-use mathlib.Core.Path.{◌≡◌, refl, ◌∙◌, ap, ap₂, subst}
+use mathlib.Core.Path.{◌≡◌, refl, ◌∙◌, ap, subst}
 use mathlib.Core.List.{List}
 use native.Mathlib.Omega.{arith}
-use native.Mathlib.Decide.{ℕ_discrete}
-use borrow.Author.Tests.{eq-eqb, ne_eqb}
 use lib.ListN.{length, set, length-set}
 use lib.Seq.{get_or-set_other}
 use Rattle.sheet.specs.Bytes.{byte}
-use Rattle.sheet.specs.Rule.{one_if}
 use Rattle.calculus.specs.Trees.{Tree, tree_of}
 use Rattle.patterns.specs.Patterns.{Pattern}
 use Rattle.patterns.specs.Translation.{before}
 use Rattle.patterns.specs.Internal.SecondParts.{PartAt, Noted}
 use Rattle.patterns.specs.Internal.Nodes.{Making, modal_fields, with_node, Progressed}
-use Rattle.patterns.specs.Internal.Putting.{every_of, Follows, PartRequires, PartPut, AfterRequires, AfterPut}
-use Rattle.patterns.specs.declared.Progress.{Progress}
-use Rattle.patterns.specs.declared.Progress.TheVariants.{Exceeded}
+use Rattle.patterns.specs.Internal.Putting.{every_of, Follows, PartRequires, PartPut, AfterPut}
+use Rattle.patterns.specs.Internal.Nodes.{Progress, Exceeded}
 use Rattle.patterns.proofs.Steps.Parts.{part_some, part_inside, by_action, by_sequence}
-use Rattle.patterns.proofs.Steps.Patching.{with_node_length}
 use Rattle.patterns.proofs.Steps.Growing.{full_exceeded, grow_modal}
 use Rattle.patterns.proofs.Steps.Follow.{follows_first_lem}
-
--- the leading byte is the flag
-pub flag_byte : (p : List ℕ) → byte p 0 ≤ 1 → byte p 0 ≡ one_if (every_of p)
-flag_byte p h = elim (ℕ_discrete (byte p 0) 1) [
-  | yes q ↦ let e = eq-eqb (byte p 0) 1 q in rw e q
-  | no q ↦ let e = ne_eqb (byte p 0) 1 q in rw e (omega arith)
-]
 
 -- more nodes and binders, in a body as long
 pub making_on : {r : List ℕ} {n b : ℕ} {out : List ℕ} → Making r n b out → (n₁ b₁ : ℕ) {out₁ : List ℕ} → length out₁ ≡ length out → n₁ ≤ 64 → b₁ ≤ 6
@@ -65,7 +53,6 @@ module _ {r p seconds slots : List ℕ} {at after n b : ℕ} {out : List ℕ} (h
   call_sequence o = by_sequence (λ R. PartRequires r p seconds (set slots at after) (at + 1) at n b out) o
       (λ Q T m s q t. record {
         making = h.making;
-        leading = h.leading;
         short = h.short;
         room = length-set slots at after ∙ h.room;
         pattern = Q;
@@ -89,26 +76,15 @@ module _ {r p seconds slots : List ℕ} {at after n b : ℕ} {out : List ℕ} (h
 
   -- ---- an action: a modality over what follows
 
-  module _ (o : byte p at ≡ 0) (l : n < 64) {out₁ : List ℕ} (e : out₁ ≡ with_node out n (modal_fields (byte p 0) n (byte p (at + 1)))) where
-    pub call_action : AfterRequires r p seconds slots after (n + 1) b out₁
-    call_action = record {
-      making = making_on h.making (n + 1) b (ap length e ∙ with_node_length out n (modal_fields (byte p 0) n (byte p (at + 1)))) (omega arith) h.making.few_binders;
-      leading = h.leading;
-      short = h.short;
-      room = h.room;
-      floor = h.end;
-      next = h.next;
-      follows = h.follows;
-    }
-
+  module _ (o : byte p at ≡ 0) (l : n < 64) {out₁ : List ℕ} (e : out₁ ≡ with_node out n (modal_fields (every_of p) n (byte p (at + 1)))) where
     pub put_action : {slots' out' : List ℕ} {x : Progress} → AfterPut r p seconds slots slots' after (n + 1) b out₁ out' x
         → PartPut r p seconds slots slots' at after n b out out' x
     unfolding before
     put_action {slots'} {out'} {x} g = record {
       made = λ R end k q f. by_action (λ R. Progressed (before (every_of p) R k b) n b out out' x) o
           (λ a y.
-          let i : out₁ ≡ with_node out n (modal_fields (one_if (every_of p)) n a) =
-          e ∙ ap₂ (λ (c d : ℕ). with_node out n (modal_fields c n d)) (flag_byte p h.leading) y in
+          let i : out₁ ≡ with_node out n (modal_fields (every_of p) n a) =
+          e ∙ ap (λ (d : ℕ). with_node out n (modal_fields (every_of p) n d)) y in
           grow_modal out h.making.room n b l (every_of p) a (subst (λ (v : List ℕ). Progressed (k b) (n + 1) b v out' x) i (g.made end k f)))
           q;
       same = λ i u. g.same h.end h.next h.follows i (omega (arith, part_some h.part));

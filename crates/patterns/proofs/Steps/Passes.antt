@@ -1,48 +1,58 @@
 -- The turns of the pass over a pattern's bytes.
 use Prim.Native.Nat.{ℕ, ◌+◌, ◌-◌, ◌<◌, ◌≤◌}
-use mathlib.Core.Path.{◌≡◌, sym, ◌∙◌, ap}
+use mathlib.Core.Path.{◌≡◌, refl, sym, ◌∙◌, ap, ap₂}
 use mathlib.Core.Bool.{false}
-use mathlib.Core.List.{List}
+use mathlib.Core.List.{List, [], ◌∷◌}
 use native.Mathlib.Omega.{arith}
 use lib.Dec.{eqb}
-use lib.ListN.{length, drop}
-use Rattle.sheet.specs.Bytes.{byte}
+use lib.ListN.{length}
 use Rattle.patterns.specs.Patterns.{parts_of, reading_of}
 use Rattle.patterns.specs.Internal.Passing.{has_parts, is_readable}
-use Rattle.patterns.proofs.Reading.Passing.{reading_passes, passes_left_over, passes_action, passes_high_entry, passes_cut}
-use Rattle.patterns.proofs.Reading.Passing.{passes_two, passes_one, passes_unknown, passes_end}
+use Rattle.patterns.proofs.Reading.Passing.{reading_passes, passes_left_over, passes_action, passes_two, passes_one, passes_end}
+use Rattle.patterns.proofs.Reading.Passing.{passes_cut, passes_high_entry, passes_unknown}
 
--- what the pass holds: the bytes from its place on hold the parts missing exactly where the whole is readable
-pub record Passing (entries : ℕ) (p : List ℕ) (missing at : ℕ) : Type 0 where
-  pub few : missing ≤ at
-  pub left : has_parts missing (parts_of entries (drop at p)) ≡ is_readable (reading_of entries p)
+-- what the pass holds: the bytes left hold the parts missing exactly where the whole is readable
+pub record Passing (entries : ℕ) (p : List ℕ) (missing : ℕ) (rest : List ℕ) : Type 0 where
+  pub few : missing + length rest ≤ length p
+  pub left : has_parts missing (parts_of entries rest) ≡ is_readable (reading_of entries p)
 
-pub pass_start : (entries : ℕ) (p : List ℕ) → 1 ≤ length p → byte p 0 ≤ 1 → Passing entries p 1 1
-pass_start entries p l b = record { few = omega arith; left = sym (reading_passes entries p l b) }
+pub pass_start : (entries : ℕ) {p bytes : List ℕ} {b : ℕ} → p ≡ b ∷ bytes → b ≤ 1 → Passing entries p 1 bytes
+pass_start entries q low = record { few = omega (arith, ap length q); left = sym (reading_passes entries q low) }
 
-module _ {entries : ℕ} {p : List ℕ} {missing at : ℕ} (h : Passing entries p missing at) where
+-- an action and its entry in front
+pub action_first : {rest bytes behind : List ℕ} {o e : ℕ} → rest ≡ o ∷ bytes → o ≡ 0 → bytes ≡ e ∷ behind → rest ≡ 0 ∷ e ∷ behind
+action_first q z r = q ∙ ap₂ ◌∷◌ z r
+
+module _ {entries : ℕ} {p : List ℕ} {missing : ℕ} {rest : List ℕ} (h : Passing entries p missing rest) where
   -- the turns that go on
-  pub pass_action : byte p at ≡ 0 → at + 1 < length p → byte p (at + 1) < entries → 1 ≤ missing → Passing entries p (missing - 1) (at + 2)
-  pass_action o l e w = record { few = omega (arith, h.few); left = sym (passes_action entries p at missing o l e w) ∙ h.left }
+  pub pass_action : {e : ℕ} {bytes : List ℕ} → rest ≡ 0 ∷ e ∷ bytes → e < entries → 1 ≤ missing → Passing entries p (missing - 1) bytes
+  pass_action {e} {bytes} q l w = record { few = omega (arith, h.few, ap length q); left = sym (passes_action entries rest missing bytes e q l w) ∙ h.left }
 
-  pub pass_two : at < length p → 1 ≤ byte p at → byte p at ≤ 2 → 1 ≤ missing → Passing entries p (missing + 1) (at + 1)
-  pass_two l o u w = record { few = omega (arith, h.few); left = sym (passes_two entries p at missing l o u w) ∙ h.left }
+  pub pass_two : {b : ℕ} {bytes : List ℕ} → rest ≡ b ∷ bytes → 1 ≤ b → b ≤ 2 → 1 ≤ missing → Passing entries p (missing + 1) bytes
+  pass_two {b} {bytes} q o u w = record { few = omega (arith, h.few, ap length q); left = sym (passes_two entries rest missing bytes b q o u w) ∙ h.left }
 
-  pub pass_one : at < length p → byte p at ≡ 3 → 1 ≤ missing → Passing entries p missing (at + 1)
-  pass_one l o w = record { few = omega (arith, h.few); left = sym (passes_one entries p at missing l o w) ∙ h.left }
+  pub pass_one : {bytes : List ℕ} → rest ≡ 3 ∷ bytes → 1 ≤ missing → Passing entries p missing bytes
+  pass_one {bytes} q w = record { few = omega (arith, h.few, ap length q); left = sym (passes_one entries rest missing bytes q w) ∙ h.left }
 
   -- those that end it
-  pub pass_left_over : at < length p → missing ≡ 0 → false ≡ is_readable (reading_of entries p)
-  pass_left_over l z = sym (passes_left_over entries p at l) ∙ ap (λ (n : ℕ). has_parts n (parts_of entries (drop at p))) (sym z) ∙ h.left
+  pub pass_fails : has_parts missing (parts_of entries rest) ≡ false → false ≡ is_readable (reading_of entries p)
+  pass_fails q = sym q ∙ h.left
 
-  pub pass_cut : at < length p → byte p at ≡ 0 → length p ≤ at + 1 → false ≡ is_readable (reading_of entries p)
-  pass_cut l o u = sym (passes_cut entries p at missing l o u) ∙ h.left
+  pub pass_cut : {o : ℕ} {bytes : List ℕ} → rest ≡ o ∷ bytes → o ≡ 0 → length bytes ≡ 0 → false ≡ is_readable (reading_of entries p)
+  pass_cut {o} {bytes} q z none = pass_fails (passes_cut entries rest missing (q ∙ ap₂ ◌∷◌ z (empty bytes none)))
+    where
+      empty : (bytes : List ℕ) → length bytes ≡ 0 → bytes ≡ []
+      empty [] e = refl
+      empty (b ∷ bytes) e = absurd (omega arith)
 
-  pub pass_high_entry : byte p at ≡ 0 → at + 1 < length p → entries ≤ byte p (at + 1) → false ≡ is_readable (reading_of entries p)
-  pass_high_entry o l e = sym (passes_high_entry entries p at missing o l e) ∙ h.left
+  pub pass_high_entry : {e : ℕ} {bytes : List ℕ} → rest ≡ 0 ∷ e ∷ bytes → entries ≤ e → false ≡ is_readable (reading_of entries p)
+  pass_high_entry {e} {bytes} q l = pass_fails (passes_high_entry entries rest missing bytes e q l)
 
-  pub pass_unknown : at < length p → 4 ≤ byte p at → false ≡ is_readable (reading_of entries p)
-  pass_unknown l o = sym (passes_unknown entries p at missing l o) ∙ h.left
+  pub pass_unknown : {b : ℕ} {bytes : List ℕ} → rest ≡ b ∷ bytes → 4 ≤ b → false ≡ is_readable (reading_of entries p)
+  pass_unknown {b} {bytes} q l = pass_fails (passes_unknown entries rest missing bytes b q l)
 
-  pub pass_end : length p ≤ at → eqb missing 0 ≡ is_readable (reading_of entries p)
-  pass_end l = sym (passes_end entries p at missing l) ∙ h.left
+  pub pass_left_over : {b : ℕ} {bytes : List ℕ} → rest ≡ b ∷ bytes → missing ≡ 0 → false ≡ is_readable (reading_of entries p)
+  pass_left_over {b} {bytes} q z = pass_fails (ap (λ (n : ℕ). has_parts n (parts_of entries rest)) z ∙ passes_left_over entries rest b bytes q)
+
+  pub pass_end : length rest ≤ 0 → eqb missing 0 ≡ is_readable (reading_of entries p)
+  pass_end l = sym (passes_end entries rest missing l) ∙ h.left

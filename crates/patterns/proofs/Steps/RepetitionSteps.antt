@@ -7,21 +7,19 @@ use native.Mathlib.Omega.{arith}
 use lib.ListN.{length, set, length-set}
 use lib.Seq.{get_or-set_same, get_or-set_other}
 use Rattle.sheet.specs.Bytes.{byte}
-use Rattle.sheet.specs.Rule.{one_if}
 use Rattle.calculus.specs.Trees.{Tree, tree_size, binders, tree_of}
 use Rattle.calculus.proofs.Trees.Stands.{size_some}
 use Rattle.patterns.specs.Patterns.{Pattern}
 use Rattle.patterns.specs.Translation.{before}
 use Rattle.patterns.specs.Internal.Nodes.{pair_fields, binder_fields, with_node, Followed, Exceeds, Progressed}
 use Rattle.patterns.specs.Internal.Putting.{every_of, Follows, PartRequires, PartPut, AfterRequires, AfterPut}
-use Rattle.patterns.specs.declared.Progress.{Progress}
-use Rattle.patterns.specs.declared.Progress.TheVariants.{Made, Exceeded}
+use Rattle.patterns.specs.Internal.Nodes.{Progress, Made, Exceeded}
 use Rattle.patterns.proofs.Steps.Parts.{part_some, by_repetition}
 use Rattle.patterns.proofs.Steps.SecondSteps.{one_inside}
 use Rattle.patterns.proofs.Steps.Patching.{with_node_length}
 use Rattle.patterns.proofs.Steps.Growing.{exceeds_first, grow_pair, grow_binder}
 use Rattle.patterns.proofs.Steps.Follow.{follows_set}
-use Rattle.patterns.proofs.Steps.PartSteps.{part_place, flag_byte, making_on}
+use Rattle.patterns.proofs.Steps.PartSteps.{part_place, making_on}
 use Rattle.patterns.proofs.Steps.ChoiceSteps.{told_followed}
 
 module _ {r p seconds slots : List ℕ} {at after n b : ℕ} {out : List ℕ} (h : PartRequires r p seconds slots at after n b out) (o : 2 < byte p at) where
@@ -40,12 +38,9 @@ module _ {r p seconds slots : List ℕ} {at after n b : ℕ} {out : List ℕ} (h
   again R k = before (every_of p) R (λ m. Tree.variable b) (suc b + binders (k (suc b)))
 
   -- the binder is put and its variable noted, and what follows comes next
-  module _ (l : n + 1 < 64) (u : b < 6) {out₁ : List ℕ} (w : out₁ ≡ with_node out n (binder_fields (byte p 0) n b)) where
-    bound_out : out₁ ≡ with_node out n (binder_fields (one_if (every_of p)) n b)
-    bound_out = w ∙ ap (λ (c : ℕ). with_node out n (binder_fields c n b)) (flag_byte p h.leading)
-
+  module _ (l : n + 1 < 64) (u : b < 6) {out₁ : List ℕ} (w : out₁ ≡ with_node out n (binder_fields (every_of p) n b)) where
     sized_out : length out₁ ≡ length out
-    sized_out = ap length w ∙ with_node_length out n (binder_fields (byte p 0) n b)
+    sized_out = ap length w ∙ with_node_length out n (binder_fields (every_of p) n b)
 
     still_follows : {end : ℕ} {k : ℕ → Tree} → Follows p seconds slots (every_of p) (tree_of r) end after k
         → Follows p seconds (set slots at b) (every_of p) (tree_of r) end after k
@@ -54,7 +49,6 @@ module _ {r p seconds slots : List ℕ} {at after n b : ℕ} {out : List ℕ} (h
     pub call_follow : AfterRequires r p seconds (set slots at b) after (n + 1 + 1) (b + 1) out₁
     call_follow = record {
       making = making_on h.making (n + 1 + 1) (b + 1) sized_out (omega arith) (omega arith);
-      leading = h.leading;
       short = h.short;
       room = length-set slots at b ∙ h.room;
       floor = h.end;
@@ -69,7 +63,7 @@ module _ {r p seconds slots : List ℕ} {at after n b : ℕ} {out : List ℕ} (h
     unfolding before
     over R k {out'} {x} d =
         grow_binder out h.making.room n b (omega arith) (every_of p)
-        (subst (λ (v : List ℕ). Progressed (Tree.pair (every_of p) (k (suc b)) (again R k)) (n + 1) (b + 1) v out' x) bound_out d)
+        (subst (λ (v : List ℕ). Progressed (Tree.pair (every_of p) (k (suc b)) (again R k)) (n + 1) (b + 1) v out' x) w d)
 
     module _ {slots₁ out₂ : List ℕ} {x₁ : Progress}
         (g : AfterPut r p seconds (set slots at b) slots₁ after (n + 1 + 1) (b + 1) out₁ out₂ x₁) where
@@ -102,7 +96,7 @@ module _ {r p seconds slots : List ℕ} {at after n b : ℕ} {out : List ℕ} (h
 
       -- it fits: the pair is put over it, and the part comes next, before the variable
       module _ {n₁ b₁ : ℕ} (e : x₁ ≡ Made n₁ b₁) {out₃ : List ℕ}
-          (v : out₃ ≡ with_node out₂ (n + 1) (pair_fields (byte p 0) (n + 1) n₁)) where
+          (v : out₃ ≡ with_node out₂ (n + 1) (pair_fields (every_of p) (n + 1) n₁)) where
         follow_made : Followed (h.next (suc b)) (n + 1 + 1) (b + 1) out₁ out₂ n₁ b₁
         follow_made = told_followed (follow_is h.follows) e
 
@@ -117,9 +111,8 @@ module _ {r p seconds slots : List ℕ} {at after n b : ℕ} {out : List ℕ} (h
         pub call_repeat : PartRequires r p seconds slots₁ (at + 1) at n₁ b₁ out₃
         call_repeat = let q = one_inside h.part o in record {
           making = making_on h.making n₁ b₁
-              (ap length v ∙ with_node_length out₂ (n + 1) (pair_fields (byte p 0) (n + 1) n₁) ∙ follow_made.sized ∙ sized_out)
+              (ap length v ∙ with_node_length out₂ (n + 1) (pair_fields (every_of p) (n + 1) n₁) ∙ follow_made.sized ∙ sized_out)
               follow_made.few_nodes follow_made.few_binders;
-          leading = h.leading;
           short = h.short;
           room = sized_slots ∙ h.room;
           pattern = q.0;
@@ -140,7 +133,7 @@ module _ {r p seconds slots : List ℕ} {at after n b : ℕ} {out : List ℕ} (h
               over Q k
               (grow_pair out₁ (sized_out ∙ h.making.room) (n + 1) (b + 1) (every_of p) first
               (subst (λ (c : List ℕ). Progressed (again Q k) n₁ b₁ c out₄ x₂)
-              (v ∙ ap (λ (c : ℕ). with_node out₂ (n + 1) (pair_fields c (n + 1) n₁)) (flag_byte p h.leading))
+              v
               (subst (λ (c : ℕ). Progressed (before (every_of p) Q (λ m. Tree.variable b) c) n₁ b₁ out₃ out₄ x₂) i
               (d.made Q end (λ m. Tree.variable b) u (variable_follows end))))))
               q;

@@ -1,11 +1,15 @@
 -- What is asked and promised where nodes are put. Contracts of private functions cite these; no promise of a public call does.
-use Rattle.std.specs.Prelude.{ℕ, ◌+◌, ◌*◌, ◌<◌, ◌≤◌, ◌≡◌, List, ◌++◌, length, set, take, ltb, eqb}
+use Rattle.std.specs.Prelude.{ℕ, ◌+◌, ◌*◌, ◌<◌, ◌≤◌, ◌≡◌, Bool, List, ◌++◌, length, set, take, ltb, eqb}
 use Rattle.sheet.specs.Bytes.{pick}
+use Rattle.sheet.specs.Rule.{one_if}
 use Rattle.sheet.specs.WellFormed.{WellFormedRule}
 use Rattle.sheet.specs.declared.Fields.{Fields}
 use Rattle.calculus.specs.Trees.{Tree, tree_size, binders, nodes_from}
-use Rattle.patterns.specs.declared.Progress.{Progress}
-use Rattle.patterns.specs.declared.Progress.TheVariants.{Made, Exceeded}
+
+-- how much of the rule is made, so many nodes and binders; or it becomes larger than a rule may be
+pub data Progress : Type 0 where
+  Made : ℕ → ℕ → Progress
+  Exceeded : Progress
 
 -- a node of a rule with n nodes and b binders before the rule: children and variables are numbered on from them
 unfoldable pub moved : ℕ → ℕ → Fields → Fields
@@ -23,19 +27,19 @@ pub record Movable (f : Fields) (n b : ℕ) : Type 0 where
   pub few_nodes : n ≤ 64
   pub few_binders : b ≤ 6
 
--- The fields of node n by its kind: every is the leading byte, 0 or 1, and chooses the first or the second of two kinds. An "or" or "and"
--- whose second child is m; a "some" or "every" with entry e; a variable; a least or greatest fixed point.
-abbrev pub pair_fields : ℕ → ℕ → ℕ → Fields
-pair_fields every n m = record { kind = 2 + every; x = n + 1; y = m }
+-- The fields of node n by its kind: every chooses the first or the second of two kinds. An "or" or "and" whose second child is m; a "some"
+-- or "every" with entry e; a variable; a least or greatest fixed point.
+abbrev pub pair_fields : Bool → ℕ → ℕ → Fields
+pair_fields every n m = record { kind = 2 + one_if every; x = n + 1; y = m }
 
-abbrev pub modal_fields : ℕ → ℕ → ℕ → Fields
-modal_fields every n e = record { kind = 4 + every; x = e; y = n + 1 }
+abbrev pub modal_fields : Bool → ℕ → ℕ → Fields
+modal_fields every n e = record { kind = 4 + one_if every; x = e; y = n + 1 }
 
 abbrev pub variable_fields : ℕ → Fields
 variable_fields X = record { kind = 6; x = X; y = 0 }
 
-abbrev pub binder_fields : ℕ → ℕ → ℕ → Fields
-binder_fields every n X = record { kind = 7 + every; x = X; y = n + 1 }
+abbrev pub binder_fields : Bool → ℕ → ℕ → Fields
+binder_fields every n X = record { kind = 7 + one_if every; x = X; y = n + 1 }
 
 -- node n put into a rule body
 abbrev pub with_node : List ℕ → ℕ → Fields → List ℕ

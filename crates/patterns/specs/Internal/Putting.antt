@@ -1,13 +1,16 @@
 -- What is asked and promised where the parts of a pattern become nodes. Contracts of private functions cite these; no promise of a public
 -- call does.
-use Rattle.std.specs.Prelude.{ℕ, ◌<◌, ◌≤◌, ◌≡◌, Bool, List, length, eqb}
+use Rattle.std.specs.Prelude.{ℕ, ◌<◌, ◌≤◌, ◌≡◌, Bool, List, length, eqb, Result}
 use Rattle.sheet.specs.Bytes.{byte}
 use Rattle.calculus.specs.Trees.{Tree, tree_of}
 use Rattle.patterns.specs.Patterns.{Pattern}
 use Rattle.patterns.specs.Translation.{raised, before}
 use Rattle.patterns.specs.Internal.SecondParts.{PartAt, Noted}
-use Rattle.patterns.specs.Internal.Nodes.{Making, Progressed}
-use Rattle.patterns.specs.declared.Progress.{Progress}
+use Rattle.patterns.specs.Internal.Nodes.{Progress, Making, Progressed}
+use Rattle.patterns.specs.Internal.Drafts.{progress_of}
+use Rattle.patterns.specs.declared.Oversize.{Oversize}
+use Rattle.patterns.specs.declared.draft.Draft.{Draft}
+use Rattle.patterns.specs.declared.putting.Source.{Source}
 
 -- the flag that the leading byte says
 abbrev pub every_of : List ℕ → Bool
@@ -30,7 +33,6 @@ pub data Follows (p seconds slots : List ℕ) (every : Bool) (t : Tree) : ℕ �
 -- a part begins at a place, what follows it is known, and there are n nodes and b binders
 pub record PartRequires (r p seconds slots : List ℕ) (at after n b : ℕ) (out : List ℕ) : Type 0 where
   pub making : Making r n b out
-  pub leading : byte p 0 ≤ 1
   pub short : length p ≤ 189
   pub room : length slots ≡ 189
   pub pattern : Pattern
@@ -50,7 +52,6 @@ pub record PartPut (r p seconds slots slots' : List ℕ) (at after n b : ℕ) (o
 -- what follows is known
 pub record AfterRequires (r p seconds slots : List ℕ) (after n b : ℕ) (out : List ℕ) : Type 0 where
   pub making : Making r n b out
-  pub leading : byte p 0 ≤ 1
   pub short : length p ≤ 189
   pub room : length slots ≡ 189
   pub floor : ℕ
@@ -63,3 +64,19 @@ pub record AfterPut (r p seconds slots slots' : List ℕ) (after n b : ℕ) (out
   pub same : (floor : ℕ) (k : ℕ → Tree) → Follows p seconds slots (every_of p) (tree_of r) floor after k
       → (i : ℕ) → i < floor → byte slots' i ≡ byte slots i
   pub sized : length slots' ≡ length slots
+
+-- ---- the same, of the code's values
+
+abbrev pub PartReady : Source → Draft → ℕ → ℕ → Type 0
+PartReady s d at after = PartRequires s.rule.now s.pattern.now s.seconds.now d.slots at after d.nodes d.binders d.body
+
+abbrev pub PartDone : Source → Draft → ℕ → ℕ → Result (Unit {0}) Oversize → Draft → Type 0
+PartDone s d at after x d' =
+    PartPut s.rule.now s.pattern.now s.seconds.now d.slots d'.slots at after d.nodes d.binders d.body d'.body (progress_of x d'.nodes d'.binders)
+
+abbrev pub AfterReady : Source → Draft → ℕ → Type 0
+AfterReady s d after = AfterRequires s.rule.now s.pattern.now s.seconds.now d.slots after d.nodes d.binders d.body
+
+abbrev pub AfterDone : Source → Draft → ℕ → Result (Unit {0}) Oversize → Draft → Type 0
+AfterDone s d after x d' =
+    AfterPut s.rule.now s.pattern.now s.seconds.now d.slots d'.slots after d.nodes d.binders d.body d'.body (progress_of x d'.nodes d'.binders)

@@ -1,96 +1,80 @@
 -- The bits of a word, and the word of a set.
-use Prim.Native.Nat.{ℕ, zero, suc, ◌+◌, ◌-◌, ◌/◌, ◌%◌, ◌^◌, ◌<◌, ◌≤◌}
+use Prim.Native.Nat.{ℕ, zero, suc, ◌+◌, ◌-◌, ◌/◌, ◌%◌, ◌^◌, ◌<◌, ◌≤◌, min, max}
 use mathlib.Core.Path.{◌≡◌, refl, sym, ap, ap₂, ◌∙◌}
 use mathlib.Core.Bool.{Bool, true, false, not, ◌&&◌, ◌||◌, false≢true}
 use mathlib.Core.Logic.{◌⊎◌, inl, inr}
 use native.Mathlib.Omega.{arith}
-use native.Mathlib.Nat.{pow-suc, eq-or-lt_of_le, le_of_suc-le-suc, zero-add, add-zero, mod-lt}
-use native.Mathlib.Decide.{dec_lt}
+use native.Mathlib.Nat.{pow-suc, eq-or-lt_of_le, le_of_suc-le-suc, add-zero}
+use native.Mathlib.Decide.{ℕ_discrete, dec_lt}
+use Rattle.std.proofs.lemmas.Nat.Bits.{bit_at-zero, bit_at-pow_same, bit_at-pow_other, bit_at_ones, bit_at_or, bit_at_and, bit_at_xor, bit_at-lt}
 use lib.Dec.{eqb}
-use lib.Pow.{pow_pos}
-use lib.Bits.{bit_and, bit_or, bit_xor, and_shr, or_shr, xor_shr, and_mod, or_mod, xor_mod}
+use lib.Bits.{bit_and, bit_or, bit_xor}
 use borrow.Author.Tests.{eqb-true}
 use Rattle.sheet.specs.Bytes.{pick}
 use Rattle.calculus.specs.MeetingMask.{bit}
 use Rattle.calculus.proofs.Masks.Bits.{bit_high, bit_here, bit_low}
 use Rattle.reference.specs.Reference.{word_up_to}
 
--- ---- one digit
+-- ---- each bit of a union, an intersection, a difference from a larger set
 
-digit_or : (x y : ℕ) → x < 2 → y < 2 → eqb (bit_or x y) 1 ≡ (eqb x 1 || eqb y 1)
+digit_or : (x y : ℕ) → x < 2 → y < 2 → eqb (max x y) 1 ≡ (eqb x 1 || eqb y 1)
 digit_or zero zero h k = refl
 digit_or zero (suc zero) h k = refl
-digit_or zero (suc (suc y)) h k = absurd (omega arith)
 digit_or (suc zero) zero h k = refl
 digit_or (suc zero) (suc zero) h k = refl
+digit_or zero (suc (suc y)) h k = absurd (omega arith)
 digit_or (suc zero) (suc (suc y)) h k = absurd (omega arith)
 digit_or (suc (suc x)) y h k = absurd (omega arith)
 
-digit_and : (x y : ℕ) → x < 2 → y < 2 → eqb (bit_and x y) 1 ≡ (eqb x 1 && eqb y 1)
+digit_and : (x y : ℕ) → x < 2 → y < 2 → eqb (min x y) 1 ≡ (eqb x 1 && eqb y 1)
 digit_and zero zero h k = refl
 digit_and zero (suc zero) h k = refl
-digit_and zero (suc (suc y)) h k = absurd (omega arith)
 digit_and (suc zero) zero h k = refl
 digit_and (suc zero) (suc zero) h k = refl
+digit_and zero (suc (suc y)) h k = absurd (omega arith)
 digit_and (suc zero) (suc (suc y)) h k = absurd (omega arith)
 digit_and (suc (suc x)) y h k = absurd (omega arith)
 
-digit_flip : (y : ℕ) → y < 2 → eqb (bit_xor 1 y) 1 ≡ not (eqb y 1)
+digit_flip : (y : ℕ) → y < 2 → eqb ((1 + y) % 2) 1 ≡ not (eqb y 1)
 digit_flip zero k = refl
 digit_flip (suc zero) k = refl
 digit_flip (suc (suc y)) k = absurd (omega arith)
 
-low : (a t : ℕ) → a / 2 ^ t % 2 < 2
-low a t = mod-lt (a / 2 ^ t) (omega arith)
-
--- ---- each bit of a union, an intersection, a difference from a larger set
-
 pub bit_or_lem : (a b t : ℕ) → bit (bit_or a b) t ≡ (bit a t || bit b t)
 unfolding bit
-bit_or_lem a b t =
-    ap (λ (x : ℕ). eqb (x % 2) 1) (or_shr a b t) ∙
-    (ap (λ (x : ℕ). eqb x 1) (or_mod (a / 2 ^ t) (b / 2 ^ t) 1) ∙ digit_or (a / 2 ^ t % 2) (b / 2 ^ t % 2) (low a t) (low b t))
+bit_or_lem a b t = ap (λ (x : ℕ). eqb x 1) (bit_at_or a b t) ∙ digit_or _ _ (bit_at-lt a t) (bit_at-lt b t)
 
 pub bit_and_lem : (a b t : ℕ) → bit (bit_and a b) t ≡ (bit a t && bit b t)
 unfolding bit
-bit_and_lem a b t =
-    ap (λ (x : ℕ). eqb (x % 2) 1) (and_shr a b t) ∙
-    (ap (λ (x : ℕ). eqb x 1) (and_mod (a / 2 ^ t) (b / 2 ^ t) 1) ∙ digit_and (a / 2 ^ t % 2) (b / 2 ^ t % 2) (low a t) (low b t))
+bit_and_lem a b t = ap (λ (x : ℕ). eqb x 1) (bit_at_and a b t) ∙ digit_and _ _ (bit_at-lt a t) (bit_at-lt b t)
 
 pub bit_flip : (a b t : ℕ) → bit a t ≡ true → bit (bit_xor a b) t ≡ not (bit b t)
 unfolding bit
 bit_flip a b t h =
-    ap (λ (x : ℕ). eqb (x % 2) 1) (xor_shr a b t) ∙
-    (ap (λ (x : ℕ). eqb x 1) (xor_mod (a / 2 ^ t) (b / 2 ^ t) 1) ∙
-    (ap (λ (x : ℕ). eqb (bit_xor x (b / 2 ^ t % 2)) 1) (eqb-true (a / 2 ^ t % 2) 1 h) ∙ digit_flip (b / 2 ^ t % 2) (low b t)))
+    ap (λ (x : ℕ). eqb x 1) (bit_at_xor a b t) ∙ (ap (λ (x : ℕ). eqb ((x + b / 2 ^ t % 2) % 2) 1) (eqb-true (a / 2 ^ t % 2) 1 h) ∙ digit_flip _ (bit_at-lt b t))
 
 -- ---- single words
 
 pub bit_zero : (t : ℕ) → bit 0 t ≡ false
-bit_zero t = bit_high 0 0 t (omega arith) (omega arith)
+unfolding bit
+bit_zero t = ap (λ (x : ℕ). eqb x 1) (bit_at-zero t)
 
 pub bit_power : (k : ℕ) → bit (2 ^ k) k ≡ true
-bit_power k = ap (λ (w : ℕ). bit w k) (sym (zero-add (2 ^ k))) ∙ bit_here 0 k (pow_pos k)
+unfolding bit
+bit_power k = ap (λ (x : ℕ). eqb x 1) (bit_at-pow_same k)
 
 pub power_bit : (k t : ℕ) → bit (2 ^ k) t ≡ true → t ≡ k
-power_bit k t h = go (dec_lt t k) (dec_lt k t)
-  where
-    go : Dec (t < k) → Dec (k < t) → t ≡ k
-    go (yes l) q = absurd (false≢true (sym (ap (λ (w : ℕ). bit w t) (sym (zero-add (2 ^ k))) ∙ (bit_low 0 k t l ∙ bit_zero t)) ∙ h))
-    go (no l) (yes g) = absurd (false≢true (sym (bit_high (2 ^ k) (suc k) t (omega (arith, pow-suc 2 k, pow_pos k)) g) ∙ h))
-    go (no l) (no g) = omega arith
+unfolding bit
+power_bit k t h =
+    elim (ℕ_discrete t k) [
+      | yes e ↦ e
+      | no n ↦ absurd (false≢true (sym (ap (λ (x : ℕ). eqb x 1) (bit_at-pow_other k t n)) ∙ h))
+    ]
 
 -- 2 ^ S - 1 has each bit below S
 pub bit_ones : (S t : ℕ) → t < S → bit (2 ^ S - 1) t ≡ true
-bit_ones zero t l = absurd (omega arith)
-bit_ones (suc k) t l = ap (λ (w : ℕ). bit w t) split ∙ go (eq-or-lt_of_le (le_of_suc-le-suc l)) (bit_ones k t)
-  where
-    split : 2 ^ suc k - 1 ≡ 2 ^ k - 1 + 2 ^ k
-    split = omega (arith, pow-suc 2 k, pow_pos k)
-
-    go : (t ≡ k) ⊎ (t < k) → (t < k → bit (2 ^ k - 1) t ≡ true) → bit (2 ^ k - 1 + 2 ^ k) t ≡ true
-    go (inl q) rec = ap (bit (2 ^ k - 1 + 2 ^ k)) q ∙ bit_here (2 ^ k - 1) k (omega (arith, pow_pos k))
-    go (inr h) rec = bit_low (2 ^ k - 1) k t h ∙ rec h
+unfolding bit
+bit_ones S t l = ap (λ (x : ℕ). eqb x 1) (bit_at_ones S t l)
 
 -- ---- the word of a set
 

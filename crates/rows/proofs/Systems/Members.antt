@@ -1,6 +1,6 @@
--- What holds of each cell of a list, member by member, and members of two lists joined.
+-- What holds of each cell of a list, member by member.
 use mathlib.Core.List.Memᴰ
-use mathlib.Core.List.{List, [], ◌∷◌, ◌++◌, Memᴰ}
+use mathlib.Core.List.{List, [], ◌∷◌, Memᴰ}
 use mathlib.Core.Logic.{◌⊎◌, inl, inr}
 use mathlib.Core.Path.{◌≡◌, refl, sym, subst}
 use Rattle.rows.proofs.Systems.Systems.{Each}
@@ -16,29 +16,6 @@ each_at P (x ∷ l) e d m = go (Memᴰ.cases_cons m) (λ n. each_at P l e.1 d n)
 pub all_each : {C : Type 0} (P : C → Type 0) (l : List C) → ((d : C) → Memᴰ d l → P d) → Each P l
 all_each P [] h = tt
 all_each P (x ∷ l) h = (h x (Memᴰ.head refl), all_each P l (λ d m. h d (Memᴰ.tail m)))
-
-pub mem_append : {C : Type 0} (l m : List C) (d : C) → Memᴰ d (l ++ m) → Memᴰ d l ⊎ Memᴰ d m
-mem_append [] m d n = inr n
-mem_append (x ∷ l) m d n = go (Memᴰ.cases_cons n) (mem_append l m d)
-  where
-    go : (d ≡ x) ⊎ Memᴰ d (l ++ m) → (Memᴰ d (l ++ m) → Memᴰ d l ⊎ Memᴰ d m) → Memᴰ d (x ∷ l) ⊎ Memᴰ d m
-    go (inl e) rest = inl (Memᴰ.head e)
-    go (inr n) rest = deeper (rest n)
-      where
-        deeper : Memᴰ d l ⊎ Memᴰ d m → Memᴰ d (x ∷ l) ⊎ Memᴰ d m
-        deeper (inl k) = inl (Memᴰ.tail k)
-        deeper (inr k) = inr k
-
-pub append_left : {C : Type 0} (l m : List C) (d : C) → Memᴰ d l → Memᴰ d (l ++ m)
-append_left {C} l m d n = along l n
-  where
-    along : (k : List C) → Memᴰ d k → Memᴰ d (k ++ m)
-    along k (Memᴰ.head {xs = j} e) = Memᴰ.head e
-    along k (Memᴰ.tail {xs = j} n') = Memᴰ.tail (along j n')
-
-pub append_right : {C : Type 0} (l m : List C) (d : C) → Memᴰ d m → Memᴰ d (l ++ m)
-append_right [] m d n = n
-append_right (x ∷ l) m d n = Memᴰ.tail (append_right l m d n)
 
 pub each_both : {C : Type 0} (P Q : C → Type 0) (l : List C) → Each P l → Each Q l → Each (λ d. P d × Q d) l
 each_both P Q [] x y = tt

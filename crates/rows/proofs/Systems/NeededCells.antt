@@ -8,7 +8,7 @@ use Prim.Native.Nat.{ℕ, zero, suc, ◌<◌}
 use native.Mathlib.Omega.{arith}
 use Rattle.rows.specs.Rows.{Connective, Row, decides, looked, LookedAt, now, later, Needed, itself, entry, value, need}
 use Rattle.rows.proofs.Systems.Systems.{Falling}
-use Rattle.rows.proofs.Systems.Members.{each_at, mem_append, append_left, append_right}
+use Rattle.rows.proofs.Systems.Members.{each_at}
 use Rattle.rows.proofs.Systems.Fuel.{need_row}
 
 module _ {C : Type 0} (k : Connective) (v : C → Bool) where
@@ -20,8 +20,8 @@ module _ {C : Type 0} (k : Connective) (v : C → Bool) where
     -- what is needed for an entry looked at
     pub looked_in : {e : C} {l : List C} → LookedAt k v e l → Memᴰ d (n e) → Memᴰ d (looked k v n l)
     unfolding looked
-    looked_in {e} (now {ds = l}) m = append_left (n e) _ d m
-    looked_in {e} (later {e = x} {ds = l} q h) m = append_right (n x) _ d (go (decides k (v x)) q (looked_in h m))
+    looked_in {e} (now {ds = l}) m = Memᴰ.append_left _ m
+    looked_in {e} (later {e = x} {ds = l} q h) m = Memᴰ.append_right (n x) (go (decides k (v x)) q (looked_in h m))
       where
         go : (b : Bool) → b ≡ false → Memᴰ d (looked k v n l) → Memᴰ d (elim b as (λ b. List C) [ true ↦ [] | false ↦ looked k v n l ])
         go true q m = absurd (true≢false q)
@@ -31,7 +31,7 @@ module _ {C : Type 0} (k : Connective) (v : C → Bool) where
     pub looked_find : (l : List C) → Memᴰ d (looked k v n l) → (e : C) × LookedAt k v e l × Memᴰ d (n e)
     unfolding looked
     looked_find [] m = absurd (Memᴰ.not-nil m)
-    looked_find (x ∷ l) m = go (decides k (v x)) refl (mem_append (n x) _ d m) (looked_find l)
+    looked_find (x ∷ l) m = go (decides k (v x)) refl (Memᴰ.append_cases (n x) m) (looked_find l)
       where
         go : (b : Bool) → decides k (v x) ≡ b → Memᴰ d (n x) ⊎ Memᴰ d (elim b as (λ b. List C) [ true ↦ [] | false ↦ looked k v n l ])
             → (Memᴰ d (looked k v n l) → (e : C) × LookedAt k v e l × Memᴰ d (n e)) → (e : C) × LookedAt k v e (x ∷ l) × Memᴰ d (n e)

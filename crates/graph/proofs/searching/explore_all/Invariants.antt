@@ -1,11 +1,6 @@
 -- `graph::searching::explore_all` meets its contract. Of the loop: what is left of the sweep leaves what the whole does.
-use Prim.Native.Nat.{◌-◌}
-use Rattle.graph.specs.Search.{most_states}
 use Rattle.graph.proofs.Search.SweepSteps.{Sweeping}
 use Rattle.graph.proofs.searching.explore_all.Given as goal
 
 abbrev pub invariant-loop-s : goal.invariant-loop-s
 invariant-loop-s l = Sweeping l.plan l.initial.index l.starts l.index l.colours l.s
-
-abbrev pub decreases-loop-s : goal.decreases-loop-s
-decreases-loop-s l = most_states - l.s

@@ -4,7 +4,7 @@ use Rattle.graph.proofs.Search.Halving.{Halving}
 use Rattle.graph.proofs.searching.first_from.Given as goal
 
 abbrev pub invariant-loop-low : goal.invariant-loop-low
-invariant-loop-low l = Halving l.plan l.least l.low l.high
+invariant-loop-low l = Halving l.plan l.state.0 l.low l.high
 
 abbrev pub decreases-loop-low : goal.decreases-loop-low
 decreases-loop-low l = l.high - l.low

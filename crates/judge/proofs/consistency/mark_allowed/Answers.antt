@@ -1,27 +1,13 @@
 -- `judge::consistency::mark_allowed` meets its contract.
-use Rattle.std.proofs.Common.{arith}
+use Rattle.std.proofs.Common.{refl, ◌-◌, ◌∙◌, le-ltb}
 use Rattle.judge.proofs.Steps.AuditCells.{told_zero, told_above, told_not}
 use Rattle.judge.proofs.consistency.mark_allowed.Goals as goal
 
 pub returns-then-mark-eq0 : goal.returns-then-mark-eq0
-returns-then-mark-eq0 c = told_zero _ _ _ c.if-mark-eq0.true
+returns-then-mark-eq0 c = told_zero c.args.index.now _ _ c.if-mark-eq0.true
 
-pub overflow_add-k : goal.overflow_add-k
-overflow_add-k c = omega (arith, c.wide-k.ensures.1)
+pub returns-then-index-k : goal.returns-then-index-k
+returns-then-index-k c = told_above c.args.index.now _ _ c.if-mark-eq0.false refl refl refl refl c.if-index-k.true
 
-pub number-requires : goal.number-requires
-number-requires c = omega (arith, c.wide-k.ensures.0, c.requires)
-
-pub overflow_add-k-then-number-n : goal.overflow_add-k-then-number-n
-overflow_add-k-then-number-n c = omega (arith, c.wide-k.ensures.1)
-
-pub number-requires-then-number-n : goal.number-requires-then-number-n
-number-requires-then-number-n c = omega (arith, c.wide-k.ensures.0, c.requires)
-
-pub returns-then-number-n : goal.returns-then-number-n
-returns-then-number-n c =
-    told_above _ _ _ c.if-mark-eq0.false c.wide-k.ensures.0 c.wide-n.ensures.0 c.number.ensures c.number-then-number-n.ensures
-    c.if-number-n.true
-
-pub returns : goal.returns
-returns c = told_not _ _ _ c.if-mark-eq0.false c.wide-k.ensures.0 c.wide-n.ensures.0 c.number.ensures c.if-number-n.false
+pub returns-else-index-k : goal.returns-else-index-k
+returns-else-index-k c = le-ltb _ _ c.if-index-k.false ∙ told_not c.args.index.now _ _ c.if-mark-eq0.false {k = c.args.mark - 1} refl refl refl c.if-index-k.false

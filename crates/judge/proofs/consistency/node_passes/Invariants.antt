@@ -1,6 +1,6 @@
 -- `judge::consistency::node_passes` meets its contract. Of the loop: what is left of the search for a mark under which a cell does not pass,
 -- and what is shown of the rows under every mark.
-use Rattle.std.proofs.Common.{◌-◌, not}
+use Rattle.std.proofs.Common.{not}
 use Rattle.sheet.specs.Bytes.{lowest}
 use Rattle.sheet.specs.Contents.{rule_body}
 use Rattle.sheet.proofs.Checks.Seeking.{Seeking}
@@ -11,8 +11,6 @@ use Rattle.judge.proofs.consistency.node_passes.Given as goal
 
 abbrev pub invariant-loop-m : goal.invariant-loop-m
 invariant-loop-m l =
-    Seeking (λ j. not (cell_passes l.sheet l.table (cell j l.n l.s))) l.marks (lowest (λ j. not (cell_passes l.sheet l.table (cell j l.n l.s))) (marks (rule_body l.sheet))) l.m
-    × ShownOf l.sheet l.table l.n l.s l.shown
-
-abbrev pub decreases-loop-m : goal.decreases-loop-m
-decreases-loop-m l = l.marks - l.m
+    Seeking (λ j. not (cell_passes l.sheet l.table (cell j l.node.0 l.state.0))) l.index.marks
+    (lowest (λ j. not (cell_passes l.sheet l.table (cell j l.node.0 l.state.0))) (marks (rule_body l.sheet))) l.m
+    × ShownOf l.sheet l.table l.node.0 l.state.0 l.shown

@@ -3,7 +3,7 @@ use Rattle.std.proofs.Common.{◌≡◌, ℕ, ◌<◌, ◌≤◌, sym, ap, ◌�
 use Rattle.judge.specs.Cells.{cell, opened}
 use Rattle.judge.specs.Internal.Deciding.{DecideRequires}
 use Rattle.judge.proofs.Steps.DecideSteps.{kind_at}
-use Rattle.judge.proofs.Steps.DecideCalls.{placed, node_at, index_small, cell_inside, call_first, call_second, call_outer, call_body, call_follow, binder_x, binder_asked, binder_found, binder_at}
+use Rattle.judge.proofs.Steps.DecideCalls.{placed, node_at, cell_inside, call_first, call_second, call_outer, call_body, call_follow, binder_x, binder_asked, binder_found, binder_at}
 use Rattle.judge.proofs.Steps.AuditRows.{row_false, row_true, row_unknown, row_outer, row_constant, row_body, row_modal, some_asks_one, every_asks_one, row_first, row_second}
 use Rattle.judge.proofs.consistency.row_follows.Goals as goal
 use Rattle.judge.proofs.consistency.row_follows.Goals.{After-kind_of-k, In-2-to-3, In-6, In-7-to-8, Start}
@@ -51,9 +51,6 @@ module _ (c : In-6) where
 pub binder_of-binder-requires : goal.binder_of-binder-requires
 binder_of-binder-requires c = binder_asked (asked (goal.at.binder_of-binder-requires c).Start) (is_variable (goal.at.binder_of-binder-requires c).In-6) c.x_of-x.ensures
 
-pub cell_position-requires : goal.cell_position-requires
-cell_position-requires c = index_small (asked (goal.at.cell_position-requires c).Start)
-
 pub byte_is-requires : goal.byte_is-requires
 byte_is-requires c =
     let d = asked (goal.at.byte_is-requires c).Start in
@@ -81,9 +78,6 @@ module _ (c : In-2-to-3) where
 pub x_of-x-requires-in-2-to-3 : goal.x_of-x-requires-in-2-to-3
 x_of-x-requires-in-2-to-3 c = node_at (asked (goal.at.x_of-x-requires-in-2-to-3 c).Start)
 
-pub cell_position-requires-in-2-to-3 : goal.cell_position-requires-in-2-to-3
-cell_position-requires-in-2-to-3 c = index_small (asked (goal.at.cell_position-requires-in-2-to-3 c).Start)
-
 pub byte_is-requires-in-2-to-3 : goal.byte_is-requires-in-2-to-3
 byte_is-requires-in-2-to-3 c =
     let d = asked (goal.at.byte_is-requires-in-2-to-3 c).Start in
@@ -96,9 +90,6 @@ returns-then-byte_is-one c =
 
 pub y_of-y-requires : goal.y_of-y-requires
 y_of-y-requires c = node_at (asked (goal.at.y_of-y-requires c).Start)
-
-pub cell_position-requires-in-2-to-3-2 : goal.cell_position-requires-in-2-to-3-2
-cell_position-requires-in-2-to-3-2 c = index_small (asked (goal.at.cell_position-requires-in-2-to-3-2 c).Start)
 
 pub byte_is-requires-in-2-to-3-2 : goal.byte_is-requires-in-2-to-3-2
 byte_is-requires-in-2-to-3-2 c =
@@ -121,9 +112,6 @@ y_of-y-requires-in-7-to-8 c = node_at (asked (goal.at.y_of-y-requires-in-7-to-8 
 
 pub opening-inner-requires : goal.opening-inner-requires
 opening-inner-requires c = omega (arith, c.x_of-x-in-7-to-8.ensures, binder_x (asked (goal.at.opening-inner-requires c).Start) (binder_low (goal.at.opening-inner-requires c).In-7-to-8) (binder_high (goal.at.opening-inner-requires c).In-7-to-8))
-
-pub cell_position-requires-in-7-to-8 : goal.cell_position-requires-in-7-to-8
-cell_position-requires-in-7-to-8 c = index_small (asked (goal.at.cell_position-requires-in-7-to-8 c).Start)
 
 pub byte_is-requires-in-7-to-8 : goal.byte_is-requires-in-7-to-8
 byte_is-requires-in-7-to-8 c =

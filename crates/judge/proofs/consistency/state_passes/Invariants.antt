@@ -1,5 +1,5 @@
 -- `judge::consistency::state_passes` meets its contract. Of the loop: what is left of the search for a node with a cell that does not pass.
-use Rattle.std.proofs.Common.{◌-◌, not}
+use Rattle.std.proofs.Common.{not}
 use Rattle.sheet.specs.Bytes.{lowest}
 use Rattle.sheet.specs.Contents.{rule_body}
 use Rattle.sheet.specs.Rule.{node_count}
@@ -9,7 +9,5 @@ use Rattle.judge.proofs.consistency.state_passes.Given as goal
 
 abbrev pub invariant-loop-n : goal.invariant-loop-n
 invariant-loop-n l =
-    Seeking (λ j. not (node_passes l.sheet l.table l.s j)) l.nodes (lowest (λ j. not (node_passes l.sheet l.table l.s j)) (node_count (rule_body l.sheet))) l.n
-
-abbrev pub decreases-loop-n : goal.decreases-loop-n
-decreases-loop-n l = l.nodes - l.n
+    Seeking (λ j. not (node_passes l.sheet l.table l.state.0 j)) l.index.nodes
+    (lowest (λ j. not (node_passes l.sheet l.table l.state.0 j)) (node_count (rule_body l.sheet))) l.n

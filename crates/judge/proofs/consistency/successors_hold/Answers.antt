@@ -1,26 +1,21 @@
-use Rattle.std.proofs.Common.{◌≡◌, sym, ◌∙◌, arith}
-use Rattle.judge.proofs.Steps.Turns.{meets_at, modal_node_at, state_small, state_at, transition_at_lem, met}
-use Rattle.judge.proofs.Steps.AuditRows.{successors_start, child_places, child_inside, child_has, successors_found, successors_on, successors_past, successors_end}
+-- `judge::consistency::successors_hold` meets its contract.
+use Rattle.std.proofs.Common.{◌≡◌, sym, ◌∙◌}
+use Rattle.judge.proofs.Steps.Turns.{meets_at, modal_node_at, state_at, transition_at_lem, met}
+use Rattle.judge.proofs.Steps.AuditRows.{successors_start, child_inside, child_has, successors_found, successors_on, successors_past, successors_end}
 use Rattle.judge.proofs.consistency.successors_hold.Goals as goal
-use Rattle.judge.proofs.consistency.successors_hold.Goals.{After-has_bit}
+use Rattle.judge.proofs.consistency.successors_hold.Goals.{After-has_bit, then-has_bit+else-byte_is-one, else-has_bit}
 
 -- ---- before the loop
 pub x_of-entry-requires : goal.x_of-entry-requires
 x_of-entry-requires c = modal_node_at c.requires.0
 
-pub y_of-child-requires : goal.y_of-child-requires
-y_of-child-requires c = modal_node_at c.requires.0
-
-pub transitions_end-end-requires : goal.transitions_end-end-requires
-transitions_end-end-requires c = state_small c.requires.0
-
-pub transitions_begin-i-requires : goal.transitions_begin-i-requires
-transitions_begin-i-requires c = state_small c.requires.0
+pub y_of-requires : goal.y_of-requires
+y_of-requires c = modal_node_at c.requires.0
 
 pub loop-i-init : goal.loop-i-init
 loop-i-init c =
     let f = c.requires.0 in
-    successors_start f (c.transitions_begin-i.ensures ∙ (state_at f).begins) (c.transitions_end-end.ensures ∙ (state_at f).ends)
+    successors_start f (c.transitions_begin-i.ensures ∙ (state_at f).begins) (c.transitions_end-i-end.ensures ∙ (state_at f).ends)
 
 -- ---- a transition's action
 pub label_of-requires : goal.label_of-requires
@@ -36,14 +31,9 @@ module _ (c : After-has_bit) where
 pub target_of-requires : goal.target_of-requires
 target_of-requires c = transition_at_lem c.requires.0 c.loop-i.invariant.turn c.loop-i-test.true
 
-pub cell_position-at-requires : goal.cell_position-at-requires
-cell_position-at-requires c =
-    child_places c.requires.0 c.loop-i.invariant c.loop-i-test.true c.y_of-child.ensures c.target_of.ensures
-
 pub byte_is-requires : goal.byte_is-requires
 byte_is-requires c =
-    child_inside c.requires.0 c.loop-i.invariant c.loop-i-test.true c.y_of-child.ensures c.target_of.ensures
-    c.cell_position-at.ensures
+    child_inside c.requires.0 c.loop-i.invariant c.loop-i-test.true c.y_of.ensures c.target_of.ensures c.cell_position-at.ensures
 
 pub returns-then-byte_is-one : goal.returns-then-byte_is-one
 returns-then-byte_is-one c =
@@ -51,33 +41,22 @@ returns-then-byte_is-one c =
     let w = c.loop-i.invariant in
     let more = c.loop-i-test.true in
     successors_found f w more (sym (meeting (goal.at.returns-then-byte_is-one c).After-has_bit) ∙ c.if-has_bit.true)
-    (child_has f w more c.y_of-child.ensures c.target_of.ensures c.cell_position-at.ensures c.requires.1 c.byte_is.ensures)
+    (child_has f w more c.y_of.ensures c.target_of.ensures c.cell_position-at.ensures c.requires.1 c.byte_is.ensures)
     c.if-byte_is-one.true
 
-pub overflow_add-i : goal.overflow_add-i
-overflow_add-i c = omega (arith, c.loop-i.invariant.turn.few, c.loop-i-test.true)
-
-pub loop-i-smaller-then-has_bit : goal.loop-i-smaller-then-has_bit
-loop-i-smaller-then-has_bit c = omega (arith, c.loop-i-test.true)
-
-pub loop-i-preserved-then-has_bit : goal.loop-i-preserved-then-has_bit
-loop-i-preserved-then-has_bit c =
+pub loop-i-preserved : goal.loop-i-preserved
+loop-i-preserved c =
     let f = c.requires.0 in
     let w = c.loop-i.invariant in
     let more = c.loop-i-test.true in
-    successors_on f w more (sym (meeting (goal.at.loop-i-preserved-then-has_bit c).After-has_bit) ∙ c.if-has_bit.true)
-    (child_has f w more c.y_of-child.ensures c.target_of.ensures c.cell_position-at.ensures c.requires.1 c.byte_is.ensures)
-    c.if-byte_is-one.false
-
--- ---- it does not
-pub overflow_add-i-in-loop-i : goal.overflow_add-i-in-loop-i
-overflow_add-i-in-loop-i c = omega (arith, c.loop-i.invariant.turn.few, c.loop-i-test.true)
-
-pub loop-i-smaller : goal.loop-i-smaller
-loop-i-smaller c = omega (arith, c.loop-i-test.true)
-
-pub loop-i-preserved : goal.loop-i-preserved
-loop-i-preserved c = successors_past c.requires.0 c.loop-i.invariant c.loop-i-test.true (sym (meeting (goal.at.loop-i-preserved c).After-has_bit) ∙ c.if-has_bit.false)
+    let m = sym (meeting (goal.at.loop-i-preserved c).After-has_bit) in
+    elim c.if-has_bit.branch [
+      | then-has_bit+else-byte_is-one b ↦
+          successors_on f w more (m ∙ b.if-has_bit.true)
+          (child_has f w more c.y_of.ensures b.target_of.ensures b.cell_position-at.ensures c.requires.1 b.byte_is.ensures)
+          b.if-byte_is-one.false
+      | else-has_bit b ↦ successors_past f w more (m ∙ b.if-has_bit.false)
+    ]
 
 -- ---- after the loop
 pub returns : goal.returns

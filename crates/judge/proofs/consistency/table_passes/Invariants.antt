@@ -1,5 +1,5 @@
 -- `judge::consistency::table_passes` meets its contract. Of the loop: what is left of the search for a state with a cell that does not pass.
-use Rattle.std.proofs.Common.{◌-◌, not}
+use Rattle.std.proofs.Common.{not}
 use Rattle.sheet.specs.Bytes.{lowest}
 use Rattle.sheet.specs.Contents.{plan_body}
 use Rattle.sheet.specs.Plan.{state_count}
@@ -9,7 +9,5 @@ use Rattle.judge.proofs.consistency.table_passes.Given as goal
 
 abbrev pub invariant-loop-s : goal.invariant-loop-s
 invariant-loop-s l =
-    Seeking (λ j. not (state_passes l.sheet l.table j)) l.states (lowest (λ j. not (state_passes l.sheet l.table j)) (state_count (plan_body l.sheet))) l.s
-
-abbrev pub decreases-loop-s : goal.decreases-loop-s
-decreases-loop-s l = l.states - l.s
+    Seeking (λ j. not (state_passes l.sheet l.table j)) (state_count (plan_body l.sheet))
+    (lowest (λ j. not (state_passes l.sheet l.table j)) (state_count (plan_body l.sheet))) l.s

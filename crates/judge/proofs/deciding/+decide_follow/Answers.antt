@@ -5,12 +5,13 @@ use mathlib.Core.Bool.{beq}
 use Rattle.sheet.specs.Bytes.{pick}
 use Rattle.sheet.specs.Contents.{rule_body}
 use Rattle.sheet.specs.Rule.{binder_node}
+use Rattle.judge.specs.declared.index.Index.{Index}
 use Rattle.judge.specs.Cells.{Cell, cell, opened, outer, cell_bytes}
 use Rattle.judge.specs.Internal.Deciding.{DecideRequires, FollowRequires}
 use Rattle.judge.specs.Internal.Packed.{verdict_in}
 use Rattle.judge.proofs.Steps.DecideSteps.{rank_at, kind_at, x_at, y_at}
-use Rattle.judge.proofs.Steps.Turns.{walk_rank, meets_at, modal_node_at, state_small, state_at, transition_at_lem, met}
-use Rattle.judge.proofs.deciding.+decide_follow.Goals.{decide-After-binder_of-binder, decide-After-cell_position-at, decide-After-decide-first, decide-After-decide-second, decide-After-decides, decide-After-follow-w, decide-After-follow-w-in-5, decide-After-kind_of-k, decide-After-opening-inner, decide-After-packed_constant-w, decide-In-2-to-3, decide-In-7-to-8, decide-Start, decide-Then-is_outer, follow-After-decide-w, follow-After-decides, follow-After-has_bit, follow-At-loop-i, follow-In-loop-i, follow-Start}
+use Rattle.judge.proofs.Steps.Turns.{walk_rank, meets_at, modal_node_at, state_at, transition_at_lem, met}
+use Rattle.judge.proofs.deciding.+decide_follow.Goals.{follow-then-has_bit+else-decides, follow-else-has_bit, decide-After-binder_of-binder, decide-After-cell_position-at, decide-After-decide-first, decide-After-decide-second, decide-After-decides, decide-After-follow-w, decide-After-follow-w-in-5, decide-After-kind_of-k, decide-After-opening-inner, decide-After-packed_constant-w, decide-In-2-to-3, decide-In-7-to-8, decide-Start, decide-Then-is_outer, follow-After-decide-w, follow-After-decides, follow-After-has_bit, follow-At-loop-i, follow-In-loop-i, follow-Start}
 use Rattle.judge.specs.Internal.Index.{TransitionAt}
 use Rattle.judge.proofs.Steps.FollowWalk.{WalkedTo, walk_start, walk_finish, sum_small, call_child, turn_decided, turn_on, turn_past}
 use Rattle.judge.proofs.Steps.DecideCalls as calls
@@ -24,7 +25,7 @@ module _ {t : ℕ} (c : decide-Start t) where
   abbrev sheet : List ℕ
   sheet = c.args.sheet.now
 
-  abbrev index : List ℕ
+  abbrev index : Index
   index = c.args.index.now
 
   abbrev table : List ℕ
@@ -194,9 +195,6 @@ module _ {t : ℕ} (c : decide-After-opening-inner t) where
   mark_is = c.opening-inner.ensures ∙ ap (λ (k : ℕ). opened k (begun fixpoint).args.mark) c.x_of-x-in-7-to-8.ensures
 
 -- ---- looking the cell up
-pub decide-cell_position-at-requires : goal.decide-cell_position-at-requires
-decide-cell_position-at-requires t c = calls.index_small (asked (goal.at.decide-cell_position-at-requires t c).Start)
-
 pub decide-bounds-table-at : goal.decide-bounds-table-at
 decide-bounds-table-at t c = inside (goal.at.decide-bounds-table-at t c).After-cell_position-at
 
@@ -410,7 +408,7 @@ module _ {t : ℕ} (c : follow-Start t) where
   abbrev walk_sheet : List ℕ
   walk_sheet = c.args.sheet.now
 
-  abbrev walk_index : List ℕ
+  abbrev walk_index : Index
   walk_index = c.args.index.now
 
   abbrev walk_table : List ℕ
@@ -434,7 +432,7 @@ module _ {t : ℕ} (c : follow-At-loop-i t) where
   walk_first = c.transitions_begin-i.result
 
   abbrev end : ℕ
-  end = c.transitions_end-end.result
+  end = c.transitions_end-i-end.result
 
   walked : WalkedTo (walk_sheet walk_begin) (walk_table walk_begin) (walk_node walk_begin) (state walk_begin) walk_first end c.loop-i.i c.loop-i.sum c.loop-i.table
   walked = c.loop-i.invariant
@@ -466,8 +464,8 @@ module _ {t : ℕ} (c : follow-After-decide-w t) where
   is_met : meets_at (walk_sheet (entry tested)) (walk_node (entry tested)) (loop (turn tested)).loop-i.i ≡ true
   is_met = sym (meeting tested) ∙ c.if-has_bit.true
 
-  child_is_lem : (loop (turn tested)).y_of-child.result ≡ y_at (walk_sheet (entry tested)) (walk_node (entry tested))
-  child_is_lem = (loop (turn tested)).y_of-child.ensures
+  child_is_lem : (loop (turn tested)).y_of.result ≡ y_at (walk_sheet (entry tested)) (walk_node (entry tested))
+  child_is_lem = (loop (turn tested)).y_of.ensures
 
   to_add : ((loop (turn tested)).loop-i.sum < 1000000000) × (c.decide-w.result < 1000000000)
   to_add = (sum_small (walked (loop (turn tested))), omega (arith, c.decide-w.ensures.small))
@@ -484,19 +482,13 @@ module _ {t : ℕ} (c : follow-After-decides t) where
 pub follow-x_of-entry-requires : goal.follow-x_of-entry-requires
 follow-x_of-entry-requires t c = modal_node_at (walk_asked (goal.at.follow-x_of-entry-requires t c).Start)
 
-pub follow-y_of-child-requires : goal.follow-y_of-child-requires
-follow-y_of-child-requires t c = modal_node_at (walk_asked (goal.at.follow-y_of-child-requires t c).Start)
-
-pub follow-transitions_end-end-requires : goal.follow-transitions_end-end-requires
-follow-transitions_end-end-requires t c = state_small (walk_asked (goal.at.follow-transitions_end-end-requires t c).Start)
-
-pub follow-transitions_begin-i-requires : goal.follow-transitions_begin-i-requires
-follow-transitions_begin-i-requires t c = state_small (walk_asked (goal.at.follow-transitions_begin-i-requires t c).Start)
+pub follow-y_of-requires : goal.follow-y_of-requires
+follow-y_of-requires t c = modal_node_at (walk_asked (goal.at.follow-y_of-requires t c).Start)
 
 pub follow-loop-i-init : goal.follow-loop-i-init
 follow-loop-i-init t c =
     let s = c in
-    walk_start (walk_asked (goal.at.follow-loop-i-init t c).Start) (c.transitions_begin-i.ensures ∙ (state_at (walk_asked (goal.at.follow-loop-i-init t c).Start)).begins) (c.transitions_end-end.ensures ∙ (state_at (walk_asked (goal.at.follow-loop-i-init t c).Start)).ends)
+    walk_start (walk_asked (goal.at.follow-loop-i-init t c).Start) (c.transitions_begin-i.ensures ∙ (state_at (walk_asked (goal.at.follow-loop-i-init t c).Start)).begins) (c.transitions_end-i-end.ensures ∙ (state_at (walk_asked (goal.at.follow-loop-i-init t c).Start)).ends)
 
 -- ---- a transition's action
 pub follow-label_of-requires : goal.follow-label_of-requires
@@ -510,60 +502,42 @@ pub follow-decide-w-requires : goal.follow-decide-w-requires
 follow-decide-w-requires t c =
     let m = c in
     let l = loop (turn (goal.at.follow-decide-w-requires t c).After-has_bit) in
-    let w = call_child (walk_asked (entry (goal.at.follow-decide-w-requires t c).After-has_bit)) (walked l) (turn (goal.at.follow-decide-w-requires t c).After-has_bit).loop-i-test.true l.y_of-child.ensures
+    let w = call_child (walk_asked (entry (goal.at.follow-decide-w-requires t c).After-has_bit)) (walked l) (turn (goal.at.follow-decide-w-requires t c).After-has_bit).loop-i-test.true l.y_of.ensures
     c.target_of.ensures in
     (omega (arith, w.0, (entry (goal.at.follow-decide-w-requires t c).After-has_bit).decreases), w.1)
-
-pub follow-add_visits-requires : goal.follow-add_visits-requires
-follow-add_visits-requires t c = to_add (goal.at.follow-add_visits-requires t c).After-decide-w
-
-pub follow-returns-then-decides : goal.follow-returns-then-decides
-follow-returns-then-decides t c =
-    let v = c in
-    let d = decided (goal.at.follow-returns-then-decides t c).After-decides in
-    let m = tested d in
-    turn_decided (walk_asked (entry m)) (walked (loop (turn m))) (turn m).loop-i-test.true (child_is_lem d) d.target_of.ensures
-    (is_met d) d.decide-w.ensures (sym (deciding (goal.at.follow-returns-then-decides t c).After-decides) ∙ c.if-decides.true) c.add_visits.ensures
 
 pub follow-add_visits-sum-requires : goal.follow-add_visits-sum-requires
 follow-add_visits-sum-requires t c = to_add (goal.at.follow-add_visits-sum-requires t c).After-decide-w
 
-pub follow-overflow_add-i : goal.follow-overflow_add-i
-follow-overflow_add-i t c =
-    let w = walked (loop (turn (tested (goal.at.follow-overflow_add-i t c).After-decide-w))) in
-    omega (arith, w.turn.few, w.turn.within)
-
-pub follow-loop-i-smaller-then-has_bit : goal.follow-loop-i-smaller-then-has_bit
-follow-loop-i-smaller-then-has_bit t c = omega (arith, (turn (tested (goal.at.follow-loop-i-smaller-then-has_bit t c).After-decide-w)).loop-i-test.true)
-
-pub follow-loop-i-preserved-then-has_bit : goal.follow-loop-i-preserved-then-has_bit
-follow-loop-i-preserved-then-has_bit t c =
-    let v = c in
-    let d = decided (goal.at.follow-loop-i-preserved-then-has_bit t c).After-decides in
+pub follow-returns-then-decides : goal.follow-returns-then-decides
+follow-returns-then-decides t c =
+    let v = (goal.at.follow-returns-then-decides t c).After-decides in
+    let d = decided v in
     let m = tested d in
-    turn_on (walk_asked (entry m)) (walked (loop (turn m))) (turn m).loop-i-test.true (child_is_lem d) d.target_of.ensures
-    (is_met d) d.decide-w.ensures (sym (deciding (goal.at.follow-loop-i-preserved-then-has_bit t c).After-decides) ∙ c.if-decides.false) c.add_visits-sum.ensures d.decide-w.auto.table
-
--- ---- it does not
-pub follow-overflow_add-i-in-loop-i : goal.follow-overflow_add-i-in-loop-i
-follow-overflow_add-i-in-loop-i t c =
-    let w = walked (goal.at.follow-overflow_add-i-in-loop-i t c).At-loop-i in
-    omega (arith, w.turn.few, w.turn.within)
-
-pub follow-loop-i-smaller : goal.follow-loop-i-smaller
-follow-loop-i-smaller t c = omega (arith, c.loop-i-test.true)
+    turn_decided (walk_asked (entry m)) (walked (loop (turn m))) (turn m).loop-i-test.true (child_is_lem d) d.target_of.ensures
+    (is_met d) d.decide-w.ensures (sym (deciding v) ∙ c.if-decides.true) c.add_visits-sum.ensures
 
 pub follow-loop-i-preserved : goal.follow-loop-i-preserved
 follow-loop-i-preserved t c =
-    let m = c in
-    turn_past (walk_asked (entry (goal.at.follow-loop-i-preserved t c).After-has_bit)) (walked (loop (turn (goal.at.follow-loop-i-preserved t c).After-has_bit))) (turn (goal.at.follow-loop-i-preserved t c).After-has_bit).loop-i-test.true (sym (meeting (goal.at.follow-loop-i-preserved t c).After-has_bit) ∙ c.if-has_bit.false)
+    let m = (goal.at.follow-loop-i-preserved t c).After-has_bit in
+    let s = walk_asked (entry m) in
+    let w = walked (loop (turn m)) in
+    let more = (turn m).loop-i-test.true in
+    elim c.if-has_bit.branch [
+      | follow-then-has_bit+else-decides b ↦
+          rw (b.sum-is, b.table-is)
+          (turn_on s w more c.y_of.ensures b.target_of.ensures (sym (meeting m) ∙ b.if-has_bit.true) b.decide-w.ensures
+          (sym (b.decides.ensures ∙ ap (beq (verdict_in b.decide-w.result)) (entry m).requires.1) ∙ b.if-decides.false) b.add_visits-sum.ensures b.decide-w.auto.table)
+      | follow-else-has_bit b ↦ rw (b.sum-is, b.table-is) (turn_past s w more (sym (meeting m) ∙ b.if-has_bit.false))
+    ]
 
-pub follow-add_visits-requires-2 : goal.follow-add_visits-requires-2
-follow-add_visits-requires-2 t c = (sum_small (walked (goal.at.follow-add_visits-requires-2 t c).At-loop-i), omega (arith, c.packed_constant.ensures.1))
+-- ---- after the loop
+pub follow-add_visits-requires : goal.follow-add_visits-requires
+follow-add_visits-requires t c = (sum_small (walked (goal.at.follow-add_visits-requires t c).At-loop-i), omega (arith, c.packed_constant.ensures.1))
 
 pub follow-returns : goal.follow-returns
 follow-returns t c =
     let l = c in
     let s = walk_begin (goal.at.follow-returns t c).At-loop-i in
     walk_finish (walk_asked s) (walked (goal.at.follow-returns t c).At-loop-i) c.loop-i-test.false s.requires.1 c.packed_constant.ensures
-    c.add_visits-2.ensures
+    c.add_visits.ensures

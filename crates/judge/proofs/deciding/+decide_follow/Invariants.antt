@@ -1,6 +1,6 @@
 -- The measures: of deciding twice the falling number of the cell, of following a number between those of the state's cells and of the cells
 -- that it calls on. Of the loop: what is left to walk along leaves what the whole does.
-use Rattle.std.proofs.Common.{◌*◌, ◌-◌}
+use Rattle.std.proofs.Common.{◌*◌}
 use Rattle.judge.specs.Cells.{cell}
 use Rattle.judge.proofs.Steps.DecideSteps.{rank_at}
 use Rattle.judge.proofs.Steps.FollowWalk.{WalkedTo}
@@ -14,7 +14,4 @@ abbrev pub decreases-follow : goal.decreases-follow
 decreases-follow l = walk_rank l.sheet.now l.state.0
 
 abbrev pub invariant-follow-loop-i : goal.invariant-follow-loop-i
-invariant-follow-loop-i l = WalkedTo l.sheet l.initial.table l.n l.from l.initial.i l.end l.i l.sum l.table
-
-abbrev pub decreases-follow-loop-i : goal.decreases-follow-loop-i
-decreases-follow-loop-i l = l.end - l.i
+invariant-follow-loop-i l = WalkedTo l.sheet l.initial.table l.fn.node.0 l.fn.state.0 l.initial.i l.i-end l.i l.sum l.table

@@ -1,49 +1,38 @@
 -- `judge::preparing::prepare` meets its contract.
-use Rattle.std.proofs.Common.{◌≡◌, ℕ, true, List, sym, ap, ◌∙◌, subst, true≢false, arith}
-use Rattle.graph.specs.LoopTest.{loop_free}
+use Rattle.std.proofs.Common.{sym, refl, ◌∙◌, subst, true≢false, arith}
 use Rattle.graph.specs.Explored.{Explored}
-use Rattle.judge.proofs.Steps.PrepareSteps.{binders_asked, searched, prepared}
+use Rattle.judge.proofs.Steps.PrepareSteps.{searched, masks_on, prepared}
 use Rattle.judge.proofs.preparing.prepare.Goals as goal
+use Rattle.judge.proofs.preparing.prepare.Goals.{After-explore}
+use Rattle.sheet.specs.Contents.{plan_body}
 
-pub put_binders-requires : goal.put_binders-requires
-put_binders-requires c =
-    let b = c in
-    binders_asked b.args.sheet.now b.requires.0 c.rule_body.ensures c.put_head.ensures
+module _ (c : After-explore) where
+  right : Explored (plan_body c.args.sheet.now) c.args.index.now.plan c.explore.new.index c.args.state.0 c.explore.result
+  right =
+      searched c.args.sheet.now c.plan_body-plan.ensures c.requires.0 (λ i. omega (arith, c.type_inv.sheet i)) c.requires.2 c.requires.1.size
+      c.explore.ensures.value c.explore.ensures.index_after
 
 pub returns-then-not-explore : goal.returns-then-not-explore
-returns-then-not-explore c =
-    let x = c in
-    let binders = x in
-    let body = binders in
-    let b = body in
-    let plan = body.plan_body-plan.ensures in
-    let sized = binders.put_binders.ensures.size in
-    let right = searched b.args.sheet.now plan b.requires.0 (λ i. omega (arith, body.shared_slice_known-1.given i)) b.requires.2 sized (x.explore.ensures.value, x.explore.ensures.index_after) in record { value = sym (c.if-not-explore.true) ∙ (right.answer ∙ ap (λ (p : List ℕ). loop_free p b.args.state.0) plan); prepared = λ e. absurd (true≢false (sym e)) }
-
-pub put_masks-requires : goal.put_masks-requires
-put_masks-requires c =
-    let x = c in
-    let binders = x in
-    let body = binders in
-    let b = body in
-    let sized = binders.put_binders.ensures.size in
-    let right = searched b.args.sheet.now body.plan_body-plan.ensures b.requires.0 (λ i. omega (arith, body.shared_slice_known-1.given i)) b.requires.2 sized (x.explore.ensures.value, x.explore.ensures.index_after) in
-    right.size (c.if-not-explore.false) ∙ sized
+returns-then-not-explore c = record {
+  value = sym c.if-not-explore.true ∙ (right (goal.at.returns-then-not-explore c).After-explore).answer;
+  prepared = λ e. absurd (true≢false (sym e));
+}
 
 pub returns : goal.returns
 returns c =
-    let x = c in
-    let binders = x in
-    let rule = binders in
-    let head = rule in
-    let body = head in
-    let b = body in
-    let plan = body.plan_body-plan.ensures in
-    let sized = binders.put_binders.ensures.size in
-    let right = searched b.args.sheet.now plan b.requires.0 (λ i. omega (arith, body.shared_slice_known-1.given i)) b.requires.2 sized (x.explore.ensures.value, x.explore.ensures.index_after) in
-    let found : x.explore.result ≡ true = c.if-not-explore.false in record {
-      value = sym found ∙ (right.answer ∙ ap (λ (p : List ℕ). loop_free p b.args.state.0) plan);
+    let x = right (goal.at.returns c).After-explore in
+    record {
+      value = sym c.if-not-explore.false ∙ x.answer;
       prepared = λ e.
-          prepared b.args.sheet.now b.requires.0 b.args.state.0 plan c.actions_body.ensures rule.rule_body.ensures
-          head.put_head.ensures binders.put_binders.ensures (subst (Explored _ _ _ _) found right) c.put_masks.ensures;
+          let y = subst (Explored _ _ _ _) c.if-not-explore.false x in
+          let h = c.requires.1 in
+          prepared c.args.sheet.now c.requires.0
+          (record {
+            size = y.size refl;
+            offset_is = h.offset_is;
+            nodes_are = h.nodes_are;
+            marks_are = h.marks_are;
+            binders_are = h.binders_are;
+          })
+          y (masks_on c.args.sheet.now c.plan_body-plan.ensures c.actions_body.ensures c.put_masks.ensures);
     }

@@ -1,40 +1,44 @@
 -- `patterns::pattern_check::is_readable` meets its contract.
-use native.Mathlib.Omega.{arith}
-use mathlib.Core.Path.{sym}
+use Rattle.std.proofs.Common.{sym, arith}
 use Rattle.patterns.proofs.Reading.Passing.{reading_empty, reading_unknown}
-use Rattle.patterns.proofs.Steps.Passes.{pass_start, pass_action, pass_two, pass_one}
+use Rattle.patterns.proofs.Steps.Passes.{pass_start, action_first, pass_action, pass_two, pass_one}
 use Rattle.patterns.proofs.Steps.Passes.{pass_left_over, pass_cut, pass_high_entry, pass_unknown, pass_end}
 use Rattle.patterns.proofs.pattern_check.is_readable.Goals as goal
 
-pub returns-then-pattern-lt1 : goal.returns-then-pattern-lt1
-returns-then-pattern-lt1 c = sym (reading_empty _ _ (omega arith))
+pub returns-in_default : goal.returns-in_default
+returns-in_default c = sym (reading_empty _ _ (omega (arith, c.in_default.ensures.cases)))
 
-pub returns-then-pattern-gt1 : goal.returns-then-pattern-gt1
-returns-then-pattern-gt1 c = sym (reading_unknown _ _ (omega arith))
+pub returns-then-every-gt1 : goal.returns-then-every-gt1
+returns-then-every-gt1 c = sym (reading_unknown _ c.in-Some.ensures.cases.0 (omega arith))
 
-pub loop-at-init : goal.loop-at-init
-loop-at-init c = pass_start _ _ (omega arith) (omega arith)
+pub loop-op-init : goal.loop-op-init
+loop-op-init c = pass_start _ c.in-Some.ensures.cases.0 (omega arith)
 
 pub returns-then-missing-eq0 : goal.returns-then-missing-eq0
-returns-then-missing-eq0 c = pass_left_over c.loop-at.invariant (omega arith) (omega arith)
+returns-then-missing-eq0 c = pass_left_over c.loop-op.invariant c.in-Some-split_first.ensures.cases.0 (omega arith)
 
-pub returns-then-pattern-at-lt2 : goal.returns-then-pattern-at-lt2
-returns-then-pattern-at-lt2 c = pass_cut c.loop-at.invariant (omega arith) (omega arith) (omega arith)
+pub returns-in_default-split_first-2 : goal.returns-in_default-split_first-2
+returns-in_default-split_first-2 c =
+    pass_cut c.loop-op.invariant c.in-Some-split_first.ensures.cases.0 c.in-0.is c.in_default-split_first-2.ensures.cases
 
-pub returns-then-entries-pattern : goal.returns-then-entries-pattern
-returns-then-entries-pattern c = pass_high_entry c.loop-at.invariant (omega arith) (omega arith) (omega arith)
+pub returns-then-entries-entry : goal.returns-then-entries-entry
+returns-then-entries-entry c =
+    pass_high_entry c.loop-op.invariant
+    (action_first c.in-Some-split_first.ensures.cases.0 c.in-0.is c.in-Some-split_first-2.ensures.cases.0) (omega arith)
 
-pub loop-at-preserved-then-op-eq0 : goal.loop-at-preserved-then-op-eq0
-loop-at-preserved-then-op-eq0 c = pass_action c.loop-at.invariant (omega arith) (omega arith) (omega arith) (omega arith)
+pub loop-op-preserved-in-0 : goal.loop-op-preserved-in-0
+loop-op-preserved-in-0 c =
+    pass_action c.loop-op.invariant
+    (action_first c.in-Some-split_first.ensures.cases.0 c.in-0.is c.in-Some-split_first-2.ensures.cases.0) (omega arith) (omega arith)
 
-pub loop-at-preserved-then-op-lt3 : goal.loop-at-preserved-then-op-lt3
-loop-at-preserved-then-op-lt3 c = pass_two c.loop-at.invariant (omega arith) (omega arith) (omega arith) (omega arith)
+pub loop-op-preserved-in-3 : goal.loop-op-preserved-in-3
+loop-op-preserved-in-3 c = pass_one c.loop-op.invariant (rw c.in-3.is at c.in-Some-split_first.ensures.cases.0) (omega arith)
 
-pub returns-then-op-gt3 : goal.returns-then-op-gt3
-returns-then-op-gt3 c = pass_unknown c.loop-at.invariant (omega arith) (omega arith)
+pub loop-op-preserved : goal.loop-op-preserved
+loop-op-preserved c = pass_two c.loop-op.invariant c.in-Some-split_first.ensures.cases.0 (omega arith) (omega arith) (omega arith)
 
-pub loop-at-preserved : goal.loop-at-preserved
-loop-at-preserved c = pass_one c.loop-at.invariant (omega arith) (omega arith) (omega arith)
+pub returns-in_default-op : goal.returns-in_default-op
+returns-in_default-op c = pass_unknown c.loop-op.invariant c.in-Some-split_first.ensures.cases.0 (omega arith)
 
 pub returns : goal.returns
-returns c = pass_end c.loop-at.invariant (omega arith)
+returns c = pass_end c.loop-op.invariant (omega (arith, c.in_default-split_first.ensures.cases))

@@ -1,11 +1,10 @@
--- The measure is the number of bytes left.
-use Prim.Native.Nat.{◌-◌}
-use lib.ListN.{length}
+-- What the loop keeps, and how far it still has to go.
+use Rattle.std.proofs.Common.{length}
 use Rattle.patterns.proofs.Steps.Passes.{Passing}
 use Rattle.patterns.proofs.pattern_check.is_readable.Given as goal
 
-abbrev pub invariant-loop-at : goal.invariant-loop-at
-invariant-loop-at l = Passing l.entries l.pattern l.missing l.at
+abbrev pub invariant-loop-op : goal.invariant-loop-op
+invariant-loop-op l = Passing l.entries l.pattern l.missing l.rest
 
-abbrev pub decreases-loop-at : goal.decreases-loop-at
-decreases-loop-at l = length l.pattern - l.at
+abbrev pub decreases-loop-op : goal.decreases-loop-op
+decreases-loop-op l = length l.rest

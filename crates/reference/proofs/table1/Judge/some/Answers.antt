@@ -1,5 +1,5 @@
 -- `reference::table1::Judge::some` meets its contract.
-use Rattle.std.proofs.Common.{◌≡◌, sym, ap, ◌∙◌, arith}
+use Rattle.std.proofs.Common.{sym, ap, ◌∙◌, arith}
 use Rattle.sheet.specs.Plan.{state_count}
 use Rattle.sheet.specs.WellFormed.{WellFormedPlan}
 use Rattle.sheet.proofs.Acceptance.Parts.{sheet_kept}
@@ -35,8 +35,3 @@ loop-i-preserved c =
             | else-has_bit-via-else-has_bit v ↦ (λ m k. cc)
           ]))
     ]
-
-pub returns : goal.returns
-returns c =
-    let e : c.transition_count-i-end.result ≡ c.loop-i.i = omega arith in
-    rw (← c.plan_body-plan.ensures, ← c.transition_count-i-end.ensures, e) c.loop-i.invariant
