@@ -28,11 +28,13 @@ use Rattle.std.specs.Prelude.{Ok, Err}
 use Rattle.judge.specs.InTurn.{InTurn}
 use Rattle.judge.specs.declared.QueryError.TheVariants.{WrongCount, Refused}
 use Rattle.judge.specs.Internal.Preparing.{RuleTold, StatesAsked, StatesTold, looped, told}
-use Rattle.judge.specs.Internal.Turns.{MarkRequires, StatesMarked, missing, marked, EachPrepared, holds_on, walk_in_turn, WalkRequires, WalkedInTurn, TurnsRequires}
+use Rattle.judge.specs.Internal.Turns.{MarkRequires, StatesMarked, missing, marked, EachPrepared, holds_on, walk_in_turn, WalkRequires, WalkedInTurn}
 use Rattle.judge.proofs.Cells.CountLayout.{cells_length}
 use Rattle.judge.proofs.Lists.FilledTables.{solved}
 use Rattle.judge.proofs.Steps.DecideSteps.{size_small}
 use Rattle.judge.proofs.Steps.QueryAnswers.{counted_after}
+use Rattle.judge.proofs.Steps.RightCount.{Taken, TurnedDown, short, over, miscounted}
+use Rattle.judge.specs.declared.QueryError.{QueryError}
 use Rattle.judge.proofs.Steps.TurnSteps.{walk_is}
 
 module _ (s states t : List ℕ) where
@@ -158,8 +160,13 @@ module _ {s states : List ℕ} (p : StatesTaken s states) (t : List ℕ) where
     unfolding count_right
     in_turn_miscounted g f = by_count s states t (passes g) (ne_eqb (stored_count s t) (filled_cells s t) f)
 
+  pub in_turn_turned_down : {x : QueryError} → TurnedDown s t x → QueriesInTurn s states t (Err x) t
+  in_turn_turned_down {x} (short e l) = rw e (in_turn_short l)
+  in_turn_turned_down {x} (over e l g) = rw e (in_turn_bad_byte l g)
+  in_turn_turned_down {x} (miscounted e l g f) = rw e (by_count s states t (passes l g) f)
+
 -- on a table that is taken
-module _ {s : List ℕ} {index : Index} {states t : List ℕ} {cells stored : ℕ} (q : TurnsRequires s index states t cells stored) where
+module _ {s : List ℕ} {index : Index} {states t : List ℕ} {cells stored : ℕ} (p : EachPrepared s index states) (q : Taken s t cells stored) where
   abbrev held : List ℕ
   held = take cells t
 
@@ -170,7 +177,7 @@ module _ {s : List ℕ} {index : Index} {states t : List ℕ} {cells stored : �
   room = omega (arith, ap length held_cells, cells_length s t q.long)
 
   pub walk_asked : WalkRequires s index states held
-  walk_asked = record { prepared = q.prepared; room = room }
+  walk_asked = record { prepared = p; room = room }
 
   module _ {k n : ℕ} {left : List ℕ} (w : WalkedInTurn s states held k n left) where
     -- the count stays small
@@ -179,19 +186,19 @@ module _ {s : List ℕ} {index : Index} {states t : List ℕ} {cells stored : �
     turns_fit =
         let counted = eqb-true (stored_count s t) (filled_cells s t) q.count_right_holds in
         let few = count_le (cell_bytes s) (λ i. filled (byte_at t i)) in
-        omega (arith, q.stored_is, counted, few, size_small s q.prepared.accepted, w.few)
+        omega (arith, q.stored_is, counted, few, size_small s p.accepted, w.few)
 
     -- the cells that the walk leaves, and then the count after them
     pub in_turn_judged : (u : List ℕ) → u ≡ take cells (left ++ drop cells t) ++ (in_four_bytes (stored + n) ++ drop (cells + count_bytes) (left ++ drop cells t))
         → QueriesInTurn s states t (Ok (record { passed = k; visits = n })) u
     unfolding in_turn_of table_in_turn
     in_turn_judged u f =
-        let right = solved s q.prepared.accepted in
+        let right = solved s p.accepted in
         let whole : walk_in_turn s states held ≡ result_in_turn s states t =
-        walk_is q.prepared held room ∙ ap (λ (cells : List ℕ). walked_on cells) held_cells in
+        walk_is p held room ∙ ap (λ (cells : List ℕ). walked_on cells) held_cells in
         let same : length left ≡ length held =
-        ap length (w.left_is ∙ ap table (walk_is q.prepared held room)) ∙ fill_length right held (along right held conjunction (root_cells states)) in
-        let checked = passes (states_taken q.prepared) t q.long q.bytes_right_holds in
+        ap length (w.left_is ∙ ap table (walk_is p held room)) ∙ fill_length right held (along right held conjunction (root_cells states)) in
+        let checked = passes (states_taken p) t q.long q.bytes_right_holds in
         answers s states t (Ok (record { passed = k; visits = n })) u
         (rw (checked, q.count_right_holds)
         (ap₂ (λ (k n : ℕ). Ok (record { passed = k; visits = n })) (w.passed_is ∙ ap (λ (cells : List ℕ). passed_before (holds_on s cells) states) held_cells) (w.visits_are ∙ ap visits whole)))
@@ -199,4 +206,4 @@ module _ {s : List ℕ} {index : Index} {states t : List ℕ} {cells stored : �
         ∙ ap₂ (λ (l : List ℕ) (m : ℕ). table_with s l m t) (w.left_is ∙ ap table whole) (ap₂ ◌+◌ q.stored_is (w.visits_are ∙ ap visits whole))))
       where
         walked_on : List ℕ → Result
-        walked_on cells = walked (solved s q.prepared.accepted) cells conjunction (root_cells states)
+        walked_on cells = walked (solved s p.accepted) cells conjunction (root_cells states)

@@ -7,9 +7,8 @@ use Rattle.rows.specs.Rows.{conjunction, value}
 use Rattle.rows.specs.Tables.{Result, visits, table, changed}
 use Rattle.rows.specs.Internal.Solver.{walk}
 use Rattle.graph.specs.Explored.{StartsFrom}
-use Rattle.judge.specs.Cells.{Cell, cell, written_rows, enough, position_of, cell_bytes, table_bytes}
-use Rattle.judge.specs.StoredCount.{stored_count}
-use Rattle.judge.specs.Querying.{bytes_right, count_right, result_at}
+use Rattle.judge.specs.Cells.{Cell, cell, written_rows, enough, position_of, cell_bytes}
+use Rattle.judge.specs.Querying.{result_at}
 use Rattle.judge.specs.InTurn.{root_cells, passed_before}
 use Rattle.judge.specs.declared.index.Index.{Index}
 use Rattle.judge.specs.Internal.Index.{QueryRequires}
@@ -59,12 +58,3 @@ pub record WalkedInTurn (s states cells : List ℕ) (passed n : ℕ) (left : Lis
   pub visits_are : n ≡ visits (walk_in_turn s states cells)
   pub left_is : left ≡ table (walk_in_turn s states cells)
   pub few : n ≤ cell_bytes s
-
--- all prepared, and a table that is not refused
-pub record TurnsRequires (s : List ℕ) (index : Index) (states t : List ℕ) (cells stored : ℕ) : Type 0 where
-  pub prepared : EachPrepared s index states
-  pub cells_are : cells ≡ cell_bytes s
-  pub long : table_bytes s ≤ length t
-  pub bytes_right_holds : bytes_right (cell_bytes s) t ≡ true
-  pub stored_is : stored ≡ stored_count s t
-  pub count_right_holds : count_right s t ≡ true

@@ -1,10 +1,6 @@
--- `judge::turns::mark_states` meets its contract. Of the loop: the states before i are marked.
-use Rattle.std.proofs.Common.{◌-◌, length}
+-- `judge::turns::mark_states` meets its contract. Of the loop: the states so far are marked.
 use Rattle.judge.proofs.Steps.TurnSteps.{MarkedTo}
 use Rattle.judge.proofs.turns.mark_states.Given as goal
 
-abbrev pub invariant-loop-i : goal.invariant-loop-i
-invariant-loop-i l = MarkedTo l.states l.count l.i l.starts
-
-abbrev pub decreases-loop-i : goal.decreases-loop-i
-decreases-loop-i l = length l.states - l.i
+abbrev pub invariant-loop-state : goal.invariant-loop-state
+invariant-loop-state l = MarkedTo l.states l.count l.state-index l.starts
