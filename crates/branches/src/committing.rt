@@ -8,6 +8,7 @@ use crate::{CommitError, Proposal};
 use sheet::reader::{actions_body, plan_body, rule_body};
 use sheet::writer::head_of;
 use sheet::{HEAD_LENGTH, Refusal, Transition};
+use text::Writer;
 
 // The sheet with another plan, at the front of out, if there is room for it.
 fn write_with(sheet: &[u8], plan: &[u8], out: &mut [u8]) -> Result<usize, CommitError>
@@ -19,12 +20,12 @@ fn write_with(sheet: &[u8], plan: &[u8], out: &mut [u8]) -> Result<usize, Commit
     if out.len() < HEAD_LENGTH + plan.len() + actions.len() + rule.len() {
         return Err(CommitError::Refused(Refusal::OutputShort));
     }
-    let head = head_of(plan.len() as u16, actions.len() as u16, rule.len() as u16);
-    let after_head = text::put(&head, 0, out);
-    let after_plan = text::put(plan, after_head, out);
-    let after_actions = text::put(actions, after_plan, out);
-    let end = text::put(rule, after_actions, out);
-    Ok(end)
+    let mut writer = Writer::new(out);
+    writer.put(&head_of(plan.len() as u16, actions.len() as u16, rule.len() as u16));
+    writer.put(plan);
+    writer.put(actions);
+    writer.put(rule);
+    Ok(writer.place)
 }
 
 // The sheet with the transition, at the front of out, and its length; or the refusal, with out unchanged.

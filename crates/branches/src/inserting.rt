@@ -6,6 +6,7 @@ ghost use Rattle.branches.specs.Internal.Inserting.{head_with, transition_bytes,
 
 use sheet::Transition;
 use sheet::plan::{action_count, state_count, transition_count};
+use text::Writer;
 
 // The longest plan: 4 bytes and 2,048 transitions of three.
 pub(crate) const LONGEST_PLAN: usize = 6148;
@@ -30,11 +31,11 @@ pub(crate) fn insert(plan: &[u8], branch: Transition, place: usize, room: &mut [
     requires { Inserting plan.now place room.old }
     ensures { Puts (plan_with_at plan.now (labelled branch) place) result room.old room.new }
 {
-    let head = plan_head(plan);
     let middle = 4 + 3 * place;
-    let after_head = text::put(&head, 0, room);
-    let after_front = text::put(&plan[4..middle], after_head, room);
-    let new = bytes_of(branch);
-    let after_new = text::put(&new, after_front, room);
-    text::put(&plan[middle..], after_new, room)
+    let mut writer = Writer::new(room);
+    writer.put(&plan_head(plan));
+    writer.put(&plan[4..middle]);
+    writer.put(&bytes_of(branch));
+    writer.put(&plan[middle..]);
+    writer.place
 }

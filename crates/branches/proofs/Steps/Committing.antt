@@ -10,6 +10,7 @@ use lib.Seq.{length-take-le}
 use lib.Dec.{eqb}
 use borrow.Author.Tests.{le-leb, lt-leb, not-true}
 use Rattle.text.specs.Placing.{place_after, buffer_after}
+use Rattle.text.proofs.Placing.{Placed}
 use Rattle.sheet.specs.Contents.{plan_body, actions_body, rule_body}
 use Rattle.sheet.specs.Writing.{head, sheet_length}
 use Rattle.sheet.specs.Writing as sheet
@@ -39,7 +40,7 @@ module _ (s p : List ℕ) {actions rule : List ℕ} (out : List ℕ) (d : action
   no_room h = (rw (lt-leb (length (sheet_by s p)) (length out) (omega (arith, size_is))) refl, refl)
 
   pub put_whole : sheet_length p actions rule ≤ length out → {start : List ℕ} → start ≡ head (length p) (length actions) (length rule)
-      → {a b c n : ℕ} {v w x y : List ℕ} → (a ≡ place_after start 0 out) × (v ≡ buffer_after start 0 out)
+      → {a b c n : ℕ} {v w x y : List ℕ} → Placed 0 out start a v
       → (b ≡ place_after p a v) × (w ≡ buffer_after p a v) → (c ≡ place_after actions b w) × (x ≡ buffer_after actions b w)
       → (n ≡ place_after rule c x) × (y ≡ buffer_after rule c x) → WritesWith s p out (Ok n) y
   unfolding sheet.sheet_of
