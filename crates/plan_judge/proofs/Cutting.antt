@@ -3,6 +3,7 @@ use Prim.Native.Nat.{ℕ}
 use mathlib.Core.Path.{◌≡◌, ap, ◌∙◌}
 use mathlib.Core.List.{List}
 use native.Mathlib.Omega.{arith}
+use lib.ListN.{length, take}
 use Rattle.sheet.proofs.Limits.LongFiles.{cut_answered}
 use Rattle.std.specs.Prelude.{Err}
 use Rattle.sheet.specs.declared.Refusal.{Refusal}
@@ -15,6 +16,6 @@ use Rattle.plan_judge.proofs.Answers.{program_refuses}
 pub cut_changes_nothing : CutChangesNothing
 cut_changes_nothing file = ap line_of (cut_answered input_length file (omega arith) program_of (λ (x : Refusal). Err (Refused x)) program_refuses)
 
--- what was read has the line of its file
-pub held_line : (file input : List ℕ) → HoldsStart file input → program_line input ≡ program_line file
-held_line file input h = ap program_line h ∙ cut_changes_nothing file
+-- what was read into a buffer of that length has the line of its file
+pub held_line : (file buffer : List ℕ) (n : ℕ) → length buffer ≡ input_length → HoldsStart file buffer n → program_line (take n buffer) ≡ program_line file
+held_line file buffer n l h = ap program_line (h ∙ ap (λ (k : ℕ). take k file) l) ∙ cut_changes_nothing file

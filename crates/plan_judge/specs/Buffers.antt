@@ -33,10 +33,10 @@ input_length = longest + 1
 abbrev pub CutChangesNothing : Type 0
 CutChangesNothing = (file : List ℕ) → program_line (take input_length file) ≡ program_line file
 
--- the bytes that were read are those of a file: all of them, or as many as the input holds
-abbrev pub HoldsStart : List ℕ → List ℕ → Type 0
-HoldsStart file input = input ≡ take input_length file
+-- the first n bytes of a buffer are those of a file: all of them, or as many as the buffer holds
+abbrev pub HoldsStart : List ℕ → List ℕ → ℕ → Type 0
+HoldsStart file buffer n = take n buffer ≡ take (length buffer) file
 
--- the line put is that of the file, whichever it is, whose start was read
-abbrev pub PutsLineOfFile : List ℕ → ℕ → List ℕ → List ℕ → Type 0
-PutsLineOfFile input r before after = (file : List ℕ) → HoldsStart file input → Puts (program_line file) r before after
+-- the line put is that of the file, whichever it is, whose start was read into the buffer
+abbrev pub PutsLineOfFile : List ℕ → ℕ → ℕ → List ℕ → List ℕ → Type 0
+PutsLineOfFile buffer n r before after = (file : List ℕ) → HoldsStart file buffer n → Puts (program_line file) r before after

@@ -4,7 +4,7 @@ ghost use Rattle.streams.specs.Counts.{IsPrefixLen};
 ghost use Rattle.text.specs.Placing.{Puts};
 ghost use Rattle.plan_judge.specs.Line.{line_length};
 ghost use Rattle.plan_judge.specs.Program.{program_of, program_line};
-ghost use Rattle.plan_judge.specs.Buffers.{PutsLineOfFile};
+ghost use Rattle.plan_judge.specs.Buffers.{input_length, PutsLineOfFile};
 
 use crate::line::put_line;
 use judge::clearing::clear;
@@ -33,11 +33,14 @@ fn judge_line(sheet: &[u8], text: &mut [u8]) -> usize
     put_line(judge_start(sheet), text)
 }
 
-// Puts the line of a file of which these bytes were read: all of them, or as many as the input holds.
-pub(crate) fn judge_input(input: &[u8], text: &mut [u8]) -> usize
-    requires { line_length ≤ length text.old }
+// Puts the line of a file of which n bytes were read into input: all of them, or as many as input holds. The buffer and n, and not the slice of n bytes:
+// that the buffer is long enough for every sheet is asked of it.
+pub(crate) fn judge_input(input: &[u8], n: usize, text: &mut [u8]) -> usize
+    requires input_len { length input.now ≡ input_length }
+    requires prefix_len { IsPrefixLen n input.now }
+    requires line_length_in_bounds { line_length ≤ length text.old }
     ensures result_len { IsPrefixLen result text.new }
-    ensures puts_line_of_file { PutsLineOfFile input.now result text.old text.new }
+    ensures puts_line_of_file { PutsLineOfFile input.now n result text.old text.new }
 {
-    judge_line(input, text)
+    judge_line(&input[..n], text)
 }
