@@ -45,7 +45,7 @@ pub struct JudgedInTurn {
 }
 
 // Why a query turns its input down. The count is wrong where it differs from the number of filled cells.
-#[derive(Clone, Copy)]
+#[derive(Clone, Copy, Debug, PartialEq, Eq)]
 pub enum QueryError {
     WrongCount,
     Refused(Refusal),

@@ -1,6 +1,7 @@
 // Queries in turn: several states on one table, with one preparation, up to the first whose verdict is false.
+ghost use Rattle.std.specs.Prelude.{◌≤◌};
 ghost use Rattle.judge.specs.InTurn.{QueriesInTurn};
-ghost use Rattle.judge.specs.Internal.Turns.{MarkRequires, StatesMarked, EachPrepared, WalkRequires, WalkedInTurn};
+ghost use Rattle.judge.specs.Internal.Turns.{StatesMarked, EachPrepared, WalkRequires, WalkedInTurn};
 
 use crate::counting::right_count;
 use crate::deciding::decide;
@@ -14,18 +15,19 @@ use sheet::plan::state_count;
 use sheet::reader::{check, plan_body};
 use sheet::{Node, Refusal, State};
 
-// Whether the plan, which has so many states, has all of a list; starts then names them.
-fn mark_states(states: &[u8], count: u8, starts: &mut Starts) -> bool
-    requires { MarkRequires count starts.old }
-    ensures { StatesMarked states.now count starts.new result }
+// The states of a list, named in an array. Refusal 11 where the plan, which has so many states, lacks one.
+fn marked_states(states: &[u8], count: u8) -> Result<Starts, Refusal>
+    requires { count ≤ 128 }
+    ensures { StatesMarked states.now count result }
 {
+    let mut starts = [0; MOST_STATES];
     for state in states {
         if count <= *state {
-            return false;
+            return Err(Refusal::NoSuchState);
         }
         starts[usize::from(*state)] = 1;
     }
-    true
+    Ok(starts)
 }
 
 // The cells of the states, each decided with the table so far, up to the first whose verdict is false.
@@ -75,10 +77,7 @@ pub fn query_in_turn(
     ensures { QueriesInTurn sheet.now states.now table.old result table.new }
 {
     check(sheet)?;
-    let mut starts = [0u8; MOST_STATES];
-    if !mark_states(states, state_count(plan_body(sheet)), &mut starts) {
-        return Err(QueryError::Refused(Refusal::NoSuchState));
-    }
+    let starts = marked_states(states, state_count(plan_body(sheet)))?;
     let mut index = prepare_rule(sheet);
     if !prepare_states(sheet, &mut index, &starts) {
         return Err(QueryError::Refused(Refusal::Loop));

@@ -1,5 +1,5 @@
 -- What the code of queries in turn shows: each answer is the one that the checks give.
-use Rattle.std.proofs.Common.{◌≡◌, ℕ, ◌+◌, ◌<◌, ◌≤◌, Bool, true, false, ltb, ◌≢◌, List, ◌++◌, length, get_or, take, drop, replicate, ap, ◌∙◌, ap₂, arith, ltb-true, lt-ltb, ne_eqb, eqb-true, le-leb}
+use Rattle.std.proofs.Common.{Ok, Err, Result, ◌≡◌, ℕ, ◌+◌, ◌<◌, ◌≤◌, Bool, true, false, ltb, ◌≢◌, List, ◌++◌, length, take, drop, ap, ◌∙◌, ap₂, arith, ltb-true, lt-ltb, ne_eqb, eqb-true, le-leb}
 use mathlib.Core.List.{Memᴰ}
 use borrow.Author.Tests.{lt-leb}
 use Rattle.sheet.specs.Contents.{plan_body}
@@ -7,28 +7,24 @@ use Rattle.sheet.specs.Plan.{state_count}
 use Rattle.sheet.specs.Reading.{sheet_check}
 use Rattle.sheet.specs.declared.Refusal.{Refusal}
 use Rattle.sheet.specs.declared.Refusal.TheVariants.{NoSuchState, Loop, TableShort, TableByte}
-use Rattle.std.specs.Prelude.{Err, Ok}
-use Rattle.sheet.proofs.Acceptance.Parts.{few_states}
 use Rattle.sheet.proofs.Checks.Bools.{differ, fails}
 use Rattle.rows.specs.Rows.{conjunction}
-use Rattle.rows.specs.Tables.{byte_at, filled, Result, visits, table}
+use Rattle.rows.specs.Tables.{byte_at, filled, Result as CellResult, visits, table}
 use Rattle.rows.proofs.Tables.Counting.{count_le}
 use Rattle.rows.proofs.Tables.Filling.{fill_length}
 use Rattle.rows.proofs.Solver.Walks.{along, walked}
 use Rattle.graph.specs.Explored.{StartsFrom}
 use Rattle.graph.specs.LoopTest.{all_pass, loop_free}
 use Rattle.graph.proofs.Looptest.Settled.{all_member, all_members}
-use Rattle.graph.proofs.Search.Colouring.{colourless}
 use Rattle.judge.specs.declared.index.Index.{Index}
 use Rattle.judge.specs.Cells.{cell_bytes, table_bytes, cells_in, count_bytes}
 use Rattle.judge.specs.StoredCount.{in_four_bytes, stored_count, filled_cells, table_with}
 use Rattle.judge.specs.Querying.{bytes_right, count_right}
 use Rattle.judge.specs.InTurn.{root_cells, in_turn_check, result_in_turn, passed_before, in_turn_of, table_in_turn, reported_in_turn, QueriesInTurn}
-use Rattle.std.specs.Prelude.{Ok, Err}
 use Rattle.judge.specs.InTurn.{InTurn}
 use Rattle.judge.specs.declared.QueryError.TheVariants.{WrongCount, Refused}
 use Rattle.judge.specs.Internal.Preparing.{RuleTold, StatesAsked, StatesTold, looped, told}
-use Rattle.judge.specs.Internal.Turns.{MarkRequires, StatesMarked, missing, marked, EachPrepared, holds_on, walk_in_turn, WalkRequires, WalkedInTurn}
+use Rattle.judge.specs.Internal.Turns.{StatesMarked, missing, marked, EachPrepared, holds_on, walk_in_turn, WalkRequires, WalkedInTurn}
 use Rattle.judge.proofs.Cells.CountLayout.{cells_length}
 use Rattle.judge.proofs.Lists.FilledTables.{solved}
 use Rattle.judge.proofs.Steps.DecideSteps.{size_small}
@@ -75,37 +71,29 @@ module _ (s states t : List ℕ) where
 
 -- ---- the states of the list
 
-pub none_marked : (s : List ℕ) → sheet_check s ≡ Ok tt → {count : ℕ} → count ≡ state_count (plan_body s) → {starts : List ℕ} → starts ≡ replicate 128 0
-    → MarkRequires count starts
-none_marked s accepted is e = record {
-  few = omega (arith, few_states s accepted);
-  sized = ap length e;
-  none = λ u h. h (ap (λ (l : List ℕ). get_or l u 0) e ∙ colourless 128 u);
-}
-
 module _ (s : List ℕ) {states : List ℕ} (accepted : sheet_check s ≡ Ok tt) {count : ℕ} (is : count ≡ state_count (plan_body s))
-    {starts : List ℕ} {b : Bool} (m : StatesMarked states count starts b) where
-  pub one_missing : b ≡ false → (t : List ℕ) → QueriesInTurn s states t (Err (Refused NoSuchState)) t
-  one_missing e t = go m
+    {r : Result (List ℕ) Refusal} (m : StatesMarked states count r) where
+  pub one_missing : {x : Refusal} → r ≡ Err x → (t : List ℕ) → QueriesInTurn s states t (Err (Refused x)) t
+  one_missing {x} e t = go m
     where
-      go : StatesMarked states count starts b → QueriesInTurn s states t (Err (Refused NoSuchState)) t
-      go (missing _ u h l) = in_turn_no_state s states t accepted u h (omega arith)
-      go (marked f _ _) = absurd (differ b f e)
+      go : StatesMarked states count r → QueriesInTurn s states t (Err (Refused x)) t
+      go (missing f u h l) = let same : x ≡ NoSuchState = cc in rw same (in_turn_no_state s states t accepted u h (omega arith))
+      go (marked starts f _ _) = absurd (cc)
 
-  module _ (e : b ≡ true) where
+  module _ {starts : List ℕ} (e : r ≡ Ok starts) where
     listed : (u : ℕ) → Memᴰ u states → (u < state_count (plan_body s)) × StartsFrom starts u
     listed = go m
       where
-        go : StatesMarked states count starts b → (u : ℕ) → Memᴰ u states → (u < state_count (plan_body s)) × StartsFrom starts u
-        go (missing f _ _ _) = absurd (differ b e f)
-        go (marked _ all named) = λ u h. let a = all u h in (omega (arith, a.0), a.1)
+        go : StatesMarked states count r → (u : ℕ) → Memᴰ u states → (u < state_count (plan_body s)) × StartsFrom starts u
+        go (missing f _ _ _) = absurd (cc)
+        go (marked named f all _) = λ u h. let a = all u h in let same : starts ≡ named = cc in (omega (arith, a.0), rw same a.1)
 
     named : (u : ℕ) → StartsFrom starts u → Memᴰ u states
     named = go m
       where
-        go : StatesMarked states count starts b → (u : ℕ) → StartsFrom starts u → Memᴰ u states
-        go (missing f _ _ _) = absurd (differ b e f)
-        go (marked _ all back) = back
+        go : StatesMarked states count r → (u : ℕ) → StartsFrom starts u → Memᴰ u states
+        go (missing f _ _ _) = absurd (cc)
+        go (marked named f _ back) = let same : starts ≡ named = cc in rw same back
 
     pub list_asked : {index : Index} → RuleTold s index → StatesAsked s index starts
     list_asked r = record { accepted = accepted; rule_told = r; starts_below = λ u h. (listed u (named u h)).0 }
@@ -205,5 +193,5 @@ module _ {s : List ℕ} {index : Index} {states t : List ℕ} {cells stored : �
         (rw (checked, q.count_right_holds) (counted_after s t q.long q.cells_are left u (stored + n) same f
         ∙ ap₂ (λ (l : List ℕ) (m : ℕ). table_with s l m t) (w.left_is ∙ ap table whole) (ap₂ ◌+◌ q.stored_is (w.visits_are ∙ ap visits whole))))
       where
-        walked_on : List ℕ → Result
+        walked_on : List ℕ → CellResult
         walked_on cells = walked (solved s p.accepted) cells conjunction (root_cells states)
