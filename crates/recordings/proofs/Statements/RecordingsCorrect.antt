@@ -1,7 +1,6 @@
 -- Every call of `shortest_failing`, by the cases of its sheet and recordings.
 use Prim.Native.Nat.{ℕ}
 use mathlib.Core.Path.{◌≡◌, refl, sym, ap, subst, ◌∙◌}
-use mathlib.Core.Bool.{false}
 use mathlib.Core.List.{List, []}
 use mathlib.Core.Logic.{◌≢◌, inl, inr}
 use native.Mathlib.Omega.{arith}
@@ -11,8 +10,7 @@ use Rattle.recordings.specs.Shortest.{shortest_of, part_for, reported_shortest}
 use Rattle.recordings.specs.RecordingsCorrect.{NotRefused, ShortestFailing, FirstHolds, AllHold, ShortestAnswered, RecordingsCorrect}
 use Rattle.recordings.specs.Shortest.{Answer}
 use Rattle.recordings.specs.declared.Failing.TheVariants.{First, Second}
-use Rattle.recordings.specs.declared.RecordingError.TheVariants.{RunTooLong, NoSuchAction, Refused}
-use Rattle.std.specs.Prelude.{Some, None, Ok, Err}
+use Rattle.std.specs.Prelude.{Some, None, Ok}
 use Rattle.recordings.proofs.Plans.Queries.{holds_exactly}
 use Rattle.recordings.proofs.Statements.Beginnings.{shortest_same, one_named}
 use Rattle.recordings.proofs.Statements.Outcomes.{Found, Outcome, outcome, number}
