@@ -1,6 +1,6 @@
 -- Document 02 (l): one allowance of visits for several benches. What the call answers and what it leaves in the buffer, for every list of
 -- bytes as sheet, as states and as buffer, and every V. It says all of it by the judge's definition of a query.
-use Rattle.std.specs.Prelude.{ℕ, zero, suc, ◌+◌, ◌*◌, ◌≡◌, Bool, true, false, not, ◌&&◌, List, [], ◌∷◌, ◌++◌, length, drop, replicate, eqb, ltb, leb}
+use Rattle.std.specs.Prelude.{ℕ, zero, suc, ◌+◌, ◌*◌, ◌≡◌, Bool, true, false, not, ◌&&◌, List, [], ◌∷◌, ◌++◌, length, drop, replicate, eqb, ltb, leb, Result}
 use Rattle.sheet.specs.Bytes.{byte, slice, pick, lowest}
 use Rattle.sheet.specs.Refusals.{number_of, place_of}
 use Rattle.judge.specs.Cells.{table_bytes}
@@ -9,10 +9,9 @@ use Rattle.std.specs.Prelude.{Ok, Err}
 use Rattle.judge.specs.Querying.{Queried}
 use Rattle.judge.specs.declared.QueryError.TheVariants.{WrongCount as QueryWrongCount, Refused as QueryRefused}
 use Rattle.allowance.specs.Dealing.{of_bench, deal}
-use Rattle.allowance.specs.declared.Answer.{Answer}
-use Rattle.allowance.specs.declared.Answer.TheVariants.{Dealt, BenchCountWrong, WrongCount, Refused}
+use Rattle.allowance.specs.declared.GrantError.{GrantError}
+use Rattle.allowance.specs.declared.GrantError.TheVariants.{BenchCountWrong, WrongCount, Refused}
 use Rattle.allowance.specs.declared.Bench.{Bench}
-use Rattle.allowance.specs.declared.Granted.{Granted}
 
 -- "It refuses k of 0 or over 8 with 44"
 abbrev pub most_benches : ℕ
@@ -32,11 +31,15 @@ unfoldable pub end_to_end : (ℕ → List ℕ) → ℕ → ℕ → List ℕ → 
 end_to_end table zero i after = after
 end_to_end table (suc count) i after = table i ++ end_to_end table count (i + 1) after
 
+-- whether the visits are dealt, or why the call is turned down
+abbrev pub Answer : Type 0
+Answer = Result (Unit {0}) GrantError
+
 -- what a bench's own refusal answers of the whole call; a query that is not refused turns nothing down
 abbrev pub refusal_of : Queried → Answer
-refusal_of (Ok j) = Dealt
-refusal_of (Err QueryWrongCount) = WrongCount
-refusal_of (Err (QueryRefused x)) = Refused x
+refusal_of (Ok j) = Ok tt
+refusal_of (Err QueryWrongCount) = Err WrongCount
+refusal_of (Err (QueryRefused x)) = Err (Refused x)
 
 -- "A bench granted its whole need then queries in its own table": its results, q being what its query reports
 abbrev pub queried_bench : ℕ → ℕ → QueryReport → Bench
@@ -84,11 +87,11 @@ module _ (s states t : List ℕ) where
 
   -- "of the benches' own refusals the lowest bench's turns the whole call down"
   abbrev pub answer_benches : Answer
-  answer_benches = pick (eqb lowest_refused (length states)) Dealt (refusal_of (bench_queried lowest_refused))
+  answer_benches = pick (eqb lowest_refused (length states)) (Ok tt) (refusal_of (bench_queried lowest_refused))
 
   -- "k of 0 or over 8 with 44, before anything else"
   unfoldable pub answer_of : Answer
-  answer_of = pick (bench_count_right states) answer_benches BenchCountWrong
+  answer_of = pick (bench_count_right states) answer_benches (Err BenchCountWrong)
 
   -- the benches' grants, a number for each
   module _ (grants : List ℕ) where
@@ -118,17 +121,17 @@ module _ (s states t : List ℕ) where
 
   -- document 01: "A refused call gives verdict .. false, .. visits .. and any further result number 0"
   abbrev pub benches_by : ℕ → Answer → List Bench
-  benches_by allowance Dealt = benches_granted (grants_of allowance)
-  benches_by allowance BenchCountWrong = no_benches
-  benches_by allowance WrongCount = no_benches
-  benches_by allowance (Refused x) = no_benches
+  benches_by allowance (Ok tt) = benches_granted (grants_of allowance)
+  benches_by allowance (Err BenchCountWrong) = no_benches
+  benches_by allowance (Err WrongCount) = no_benches
+  benches_by allowance (Err (Refused x)) = no_benches
 
   -- "turns the whole call down, and no table changes"
   abbrev pub tables_by : ℕ → Answer → List ℕ
-  tables_by allowance Dealt = tables_granted (grants_of allowance)
-  tables_by allowance BenchCountWrong = t
-  tables_by allowance WrongCount = t
-  tables_by allowance (Refused x) = t
+  tables_by allowance (Ok tt) = tables_granted (grants_of allowance)
+  tables_by allowance (Err BenchCountWrong) = t
+  tables_by allowance (Err WrongCount) = t
+  tables_by allowance (Err (Refused x)) = t
 
   -- the results of the benches, for every sheet, states, buffer and V
   unfoldable pub benches_for : ℕ → List Bench
@@ -145,19 +148,33 @@ pub record AnswerReport : Type 0 where
 
 -- number and place of each answer
 abbrev pub reported_answer : Answer → AnswerReport
-reported_answer Dealt = record { number = 0; place = 0 }
-reported_answer BenchCountWrong = record { number = 44; place = 0 }
-reported_answer WrongCount = record { number = 35; place = 0 }
-reported_answer (Refused x) = record { number = number_of x; place = place_of x }
+reported_answer (Ok tt) = record { number = 0; place = 0 }
+reported_answer (Err BenchCountWrong) = record { number = 44; place = 0 }
+reported_answer (Err WrongCount) = record { number = 35; place = 0 }
+reported_answer (Err (Refused x)) = record { number = number_of x; place = place_of x }
 
 -- number and place for every sheet, states and buffer
 abbrev pub answer_report_of : List ℕ → List ℕ → List ℕ → AnswerReport
 answer_report_of s states t = reported_answer (answer_of s states t)
 
+-- what the call gives: the results of the benches, with room for the most benches, or why it was turned down
+abbrev pub Granted : Type 0
+Granted = Result (List Bench) GrantError
+
+-- the answer of a call
+abbrev pub answer_in : Granted → Answer
+answer_in (Ok benches) = Ok tt
+answer_in (Err e) = Err e
+
+-- the results of the benches; document 01: "A refused call gives verdict .. false, .. visits .. and any further result number 0"
+abbrev pub benches_in : Granted → List Bench
+benches_in (Ok benches) = benches
+benches_in (Err e) = no_benches
+
 -- The contract of `grant`: a call on the sheet s, the benches' states, the allowance and the buffer t answered r and left u. The theorems
 -- of GrantsCorrect speak of it.
 abbrev pub Grants : List ℕ → List ℕ → ℕ → List ℕ → Granted → List ℕ → Type 0
 Grants s states allowance t r u =
-    (r.answer ≡ answer_of s states t)
-    × ((reported_answer r.answer ≡ answer_report_of s states t)
-    × ((r.benches ≡ benches_for s states t allowance) × (u ≡ tables_left s states t allowance)))
+    (answer_in r ≡ answer_of s states t)
+    × ((reported_answer (answer_in r) ≡ answer_report_of s states t)
+    × ((benches_in r ≡ benches_for s states t allowance) × (u ≡ tables_left s states t allowance)))

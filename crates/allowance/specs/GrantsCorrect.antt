@@ -20,7 +20,7 @@ use Rattle.allowance.specs.DealingCorrect.{WellDealt}
 use Rattle.allowance.specs.Granting.{most_benches, bench_table, needs_of, grants_of, no_bench, no_benches}
 use Rattle.allowance.specs.Granting.{AnswerReport, reported_answer, Grants}
 use Rattle.allowance.specs.declared.Bench.{Bench}
-use Rattle.allowance.specs.declared.Granted.{Granted}
+use Rattle.allowance.specs.Granting.{Granted, answer_in, benches_in}
 
 -- "k of 0 or over 8"
 abbrev pub WrongBenchCount : List ℕ → Type 0
@@ -135,7 +135,7 @@ pub record GrantCorrect (s states : List ℕ) (allowance : ℕ) (t : List ℕ) (
 pub record GrantsCorrect : Type 0 where
   pub numbers :
       (s states : List ℕ) (allowance : ℕ) (t : List ℕ) (r : Granted) (u : List ℕ) → Grants s states allowance t r u
-      → GrantNumbers s states t (reported_answer r.answer) r.benches u
+      → GrantNumbers s states t (reported_answer (answer_in r)) (benches_in r) u
   pub accepted :
       (s states : List ℕ) (allowance : ℕ) (t : List ℕ) (r : Granted) (u : List ℕ) → Grants s states allowance t r u
-      → (reported_answer r.answer).number ≡ 0 → GrantCorrect s states allowance t r.benches u
+      → (reported_answer (answer_in r)).number ≡ 0 → GrantCorrect s states allowance t (benches_in r) u

@@ -5,7 +5,7 @@ use Rattle.calculus.specs.KeySheet.{K}
 use Rattle.allowance.specs.Granting.{bench_table, reported_answer, Grants}
 use Rattle.allowance.specs.GrantsCorrect.{bench_at}
 use Rattle.allowance.specs.declared.Bench.{Bench}
-use Rattle.allowance.specs.declared.Granted.{Granted}
+use Rattle.allowance.specs.Granting.{Granted, answer_in, benches_in}
 
 -- need, grant, short, verdict, visits
 abbrev pub bench : ℕ → ℕ → Bool → Bool → ℕ → Bench
@@ -15,7 +15,7 @@ bench need grant short verdict visits = record { need = need; grant = grant; sho
 abbrev pub Gives : ℕ → Bench → Bench → Type 0
 Gives allowance first second =
     (r : Granted) (u : List ℕ) → Grants K (0 ∷ 0 ∷ []) allowance (replicate 224 0) r u
-    → ((reported_answer r.answer).number ≡ 0) × ((bench_at r.benches 0 ≡ first) × (bench_at r.benches 1 ≡ second))
+    → ((reported_answer (answer_in r)).number ≡ 0) × ((bench_at (benches_in r) 0 ≡ first) × (bench_at (benches_in r) 1 ≡ second))
 
 pub record GrantsToTry : Type 0 where
   -- both get what they need

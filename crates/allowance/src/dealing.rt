@@ -1,51 +1,37 @@
 // Dealing visits to benches: singly, in bench order, round after round, to benches still short, until the visits are spent or none is short.
-ghost use Rattle.std.specs.Prelude.{◌≡◌, ◌+◌, ◌<◌, length, replicate};
-ghost use Rattle.allowance.specs.Dealing.{standing, still_short, one_round, deal as dealtTo};
+ghost use Rattle.std.specs.Prelude.{◌≡◌, length, replicate};
+ghost use Rattle.allowance.specs.Dealing.{standing, one_round, deal as dealtTo};
+ghost use Rattle.allowance.specs.Internal.Benches.{needs_in, grants_in, verdicts_in};
 
-fn is_short(needs: &[usize], grants: &[usize], i: usize) -> bool
-    requires { (i < length needs.now) × (length grants.now ≡ length needs.now) }
-    ensures { result ≡ still_short needs.now grants.now i }
-{
-    grants[i] < needs[i]
-}
-
-fn one_more(had: usize, need: usize) -> usize
-    requires { had < need }
-    ensures { result ≡ had + 1 }
-{
-    had + 1
-}
+use crate::Bench;
 
 // A round: one visit to each bench still short, while visits are left. Returns how many are left then.
-fn round(needs: &[usize], grants: &mut [usize], visits: usize) -> usize
-    requires { length grants.old ≡ length needs.now }
-    ensures { standing grants.new result ≡ one_round needs.now (standing grants.old visits) }
+fn round(benches: &mut [Bench], visits: usize) -> usize
+    ensures dealt { standing (grants_in benches.new) result ≡ one_round (needs_in benches.old) (standing (grants_in benches.old) visits) }
+    ensures needs_same { needs_in benches.new ≡ needs_in benches.old }
+    ensures verdicts_same { verdicts_in benches.new ≡ verdicts_in benches.old }
 {
     let mut left = visits;
-    let mut i: usize = 0;
-    while i < needs.len() {
-        if left == 0 {
-            return left;
-        }
-        if is_short(needs, grants, i) {
-            grants[i] = one_more(grants[i], needs[i]);
+    for bench in benches.iter_mut() {
+        if left > 0 && bench.grant < bench.need {
+            bench.grant += 1;
             left -= 1;
-            i += 1;
-            continue;
         }
-        i += 1;
     }
     left
 }
 
 // What each bench is granted of the allowance; a round in which nothing is spent finds no bench short.
-pub(crate) fn deal(needs: &[usize], allowance: usize, grants: &mut [usize])
-    requires { grants.old ≡ replicate (length needs.now) 0 }
-    ensures { grants.new ≡ dealtTo needs.now allowance }
+// A while loop, since how much a round spends is known only after it.
+pub(crate) fn deal(benches: &mut [Bench], allowance: usize)
+    requires { grants_in benches.old ≡ replicate (length benches.old) 0 }
+    ensures dealt { grants_in benches.new ≡ dealtTo (needs_in benches.old) allowance }
+    ensures needs_same { needs_in benches.new ≡ needs_in benches.old }
+    ensures verdicts_same { verdicts_in benches.new ≡ verdicts_in benches.old }
 {
     let mut left = allowance;
     while 0 < left {
-        let after = round(needs, grants, left);
+        let after = round(benches, left);
         if after == left {
             return;
         }

@@ -6,52 +6,72 @@ mod benches;
 mod dealing;
 pub mod granting;
 
-ghost use Rattle.std.specs.Prelude.{◌≡◌};
-ghost use Rattle.allowance.specs.Granting.{reported_answer};
+ghost use Rattle.std.specs.Prelude.{◌≡◌, false, Ok, Err};
 
+use judge::{Judged, QueryError};
 use sheet::{Numbered, Refusal};
 
 // The most benches of a call.
 pub const MOST_BENCHES: usize = 8;
 
-// Whether the visits were dealt, or why the call was turned down: the number of benches is 0 or too large, or a bench's own refusal, of which a wrong
-// count is one.
+// Why a call is turned down: the number of benches is 0 or too large, or a bench's own refusal, of which a wrong count is one.
 #[derive(Clone, Copy)]
-pub enum Answer {
-    Dealt,
+pub enum GrantError {
     BenchCountWrong,
     WrongCount,
     Refused(Refusal),
 }
 
-impl Answer {
-    // Its number: 0, 44 for the number of benches, 35 for a wrong count, or that of the refusal.
-    pub fn number(self) -> u8
-        ensures { result ≡ (reported_answer self).number }
-    {
+impl From<Refusal> for GrantError {
+    ghost use Rattle.allowance.specs.declared.GrantError.TheVariants.{Refused};
+
+    ghost from_gives = { λ x e. e ≡ Refused x };
+
+    fn from(x: Refusal) -> GrantError {
+        GrantError::Refused(x)
+    }
+}
+
+impl From<QueryError> for GrantError {
+    ghost use Rattle.allowance.specs.Granting.{refusal_of};
+
+    ghost from_gives = { λ x e. Err e ≡ refusal_of (Err x) };
+
+    fn from(x: QueryError) -> GrantError {
+        match x {
+            QueryError::WrongCount => GrantError::WrongCount,
+            QueryError::Refused(x) => GrantError::Refused(x),
+        }
+    }
+}
+
+impl Numbered for GrantError {
+    ghost use Rattle.allowance.specs.Granting.{reported_answer};
+
+    ghost number = { λ e. (reported_answer (Err e)).number };
+
+    ghost place = { λ e. (reported_answer (Err e)).place };
+
+    fn number(&self) -> u8 {
         match self {
-            Answer::Dealt => 0,
-            Answer::BenchCountWrong => 44,
-            Answer::WrongCount => 35,
-            Answer::Refused(x) => x.number(),
+            GrantError::BenchCountWrong => 44,
+            GrantError::WrongCount => 35,
+            GrantError::Refused(x) => x.number(),
         }
     }
 
-    // The place of the refusal, or 0.
-    pub fn place(self) -> u16
-        ensures { result ≡ (reported_answer self).place }
-    {
+    fn place(&self) -> u16 {
         match self {
-            Answer::Dealt => 0,
-            Answer::BenchCountWrong => 0,
-            Answer::WrongCount => 0,
-            Answer::Refused(x) => x.place(),
+            GrantError::BenchCountWrong => 0,
+            GrantError::WrongCount => 0,
+            GrantError::Refused(x) => x.place(),
         }
     }
 }
 
 // What the call gives of a bench: its need, its grant, whether it is short, and the verdict and the visits of its query, false and 0 where it is short.
-#[derive(Clone, Copy)]
+// Where there is no bench every result is 0.
+#[derive(Clone, Copy, Default)]
 pub struct Bench {
     pub need: usize,
     pub grant: usize,
@@ -60,9 +80,54 @@ pub struct Bench {
     pub visits: usize,
 }
 
-// What the call gives: the answer, and beside it the benches in order. From the number of benches on, and on a refusal, every result is 0.
-#[derive(Clone, Copy)]
-pub struct Granted {
-    pub answer: Answer,
-    pub benches: [Bench; MOST_BENCHES],
+impl Bench {
+    ghost use Rattle.judge.specs.Querying.{reported_query};
+    ghost use Rattle.allowance.specs.Granting.{short_bench, queried_bench};
+
+    // A bench whose query would give this. Nothing is granted yet.
+    pub(crate) fn asked(judged: Judged) -> Bench
+        ensures { result ≡ record { need = judged.visits; grant = 0; short = false; verdict = judged.verdict; visits = 0 } }
+    {
+        Bench {
+            need: judged.visits,
+            verdict: judged.verdict,
+            ..Bench::default()
+        }
+    }
+
+    // A bench that is not granted its whole need.
+    pub(crate) fn short(need: usize, grant: usize) -> Bench
+        ensures { result ≡ short_bench need grant }
+    {
+        Bench {
+            need,
+            grant,
+            short: true,
+            ..Bench::default()
+        }
+    }
+
+    // A bench with a need of 0, whose query changes nothing.
+    pub(crate) fn idle(grant: usize, verdict: bool) -> Bench
+        ensures { result ≡ queried_bench 0 grant (reported_query (Ok (record { verdict = verdict; visits = 0 }))) }
+    {
+        Bench {
+            grant,
+            verdict,
+            ..Bench::default()
+        }
+    }
+
+    // A bench that has queried.
+    pub(crate) fn queried(need: usize, grant: usize, answer: Result<Judged, QueryError>) -> Bench
+        ensures { result ≡ queried_bench need grant (reported_query answer) }
+    {
+        Bench {
+            need,
+            grant,
+            short: false,
+            verdict: answer.is_ok_and(|judged| judged.verdict),
+            visits: answer.map_or(0, |judged| judged.visits),
+        }
+    }
 }

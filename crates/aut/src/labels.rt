@@ -36,11 +36,13 @@ pub(crate) struct Held<'t> {
     sum: u32,
 }
 
-// It is this label, with this checksum.
-fn is_held(held: &Held, label: &[u8], sum: u32) -> bool
-    ensures { result ≡ is_held label.now sum held.now }
-{
-    held.sum == sum && held.label == label
+impl<'t> Held<'t> {
+    // It is this label, with this checksum.
+    fn is(&self, label: &[u8], sum: u32) -> bool
+        ensures { result ≡ is_held label.now sum self.now }
+    {
+        self.sum == sum && self.label == label
+    }
 }
 
 // The place of the first that is this label, or their number.
@@ -49,7 +51,7 @@ fn search(held: &[Held], label: &[u8], sum: u32) -> usize
     ensures { result ≡ position_or_len (is_held label.now sum) held.now }
 {
     held.iter()
-        .position(|held| is_held(held, label, sum))
+        .position(|held| held.is(label, sum))
         .unwrap_or(held.len())
 }
 
@@ -94,7 +96,7 @@ impl<'t> Labels<'t> {
         requires { sum ≡ sum_of label.now }
         ensures { result ≡ label_number label.now self.now }
     {
-        if hint < self.count && is_held(&self.held[hint], label, sum) {
+        if hint < self.count && self.held[hint].is(label, sum) {
             return hint;
         }
         search(&self.held[..self.count], label, sum)
@@ -107,7 +109,7 @@ impl<'t> Labels<'t> {
         ensures after { self.new ≡ with_label label.now self.old }
     {
         let sum = checksum(label);
-        let slot = (sum % 1024) as usize;
+        let slot = sum as usize % HINT_ROOM;
         let number = self.find(label, sum, usize::from(self.hints[slot]));
         self.hints[slot] = number as u8;
         if number == self.count {

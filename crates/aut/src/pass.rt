@@ -69,7 +69,8 @@ fn is_line_below(line: Line, states: &[u8]) -> bool
     below(line.from, states) && below(line.to, states)
 }
 
-// The lines of a text, or `None` where one cannot be read. Few: the stated number of states is not over the limit.
+// The lines of a text, or `None` where one cannot be read. Few: the stated number of states is not over the limit. A while loop: each line is taken off
+// the front of what is left.
 pub(crate) fn pass_over<'t>(
     text: &'t [u8],
     states: &[u8],

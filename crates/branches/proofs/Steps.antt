@@ -1,4 +1,3 @@
-pub mod Comparing
 pub mod Placing
 pub mod Inserting
 pub mod Examining

@@ -16,8 +16,8 @@ use Rattle.branches.specs.Branches.{labelled, sheet_with}
 use Rattle.branches.specs.Proposing.{proposal_of, no_proposal, reported_proposal, Proposes}
 use Rattle.branches.specs.Committing.{reported_commit, Commits}
 use Rattle.branches.specs.declared.Proposal.{Proposal}
-use Rattle.branches.specs.declared.Proposed.{Proposed}
-use Rattle.branches.specs.declared.Committed.{Committed}
+use Rattle.branches.specs.Proposing.{Proposed}
+use Rattle.branches.specs.Committing.{Committed}
 
 -- ---- what the numbers ask
 

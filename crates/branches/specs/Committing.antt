@@ -1,18 +1,22 @@
 -- Document 02 (i): "Commit writes the new sheet and checks everything afresh". What it answers and leaves, for every sheet, transition,
 -- proposal and output.
-use Rattle.std.specs.Prelude.{ℕ, ◌≡◌, Bool, ◌&&◌, List, ◌++◌, length, drop, eqb, leb}
+use Rattle.std.specs.Prelude.{ℕ, ◌≡◌, Bool, ◌&&◌, List, ◌++◌, length, drop, eqb, leb, Result, Ok, Err}
 use Rattle.sheet.specs.Bytes.{pick}
 use Rattle.sheet.specs.Refusals.{number_of, place_of}
 use Rattle.sheet.specs.TransitionSystem.{LabelledTransition}
 use Rattle.sheet.specs.declared.Refusal.TheVariants.{OutputShort}
 use Rattle.sheet.specs.declared.Transition.{Transition}
 use Rattle.branches.specs.Branches.{labelled, sheet_with}
-use Rattle.branches.specs.Proposing.{proposed_of}
+use Rattle.branches.specs.Proposing.{Proposed, proposed_of}
 use Rattle.branches.specs.declared.Proposal.{Proposal}
-use Rattle.branches.specs.declared.Proposed.{Proposed}
-use Rattle.branches.specs.declared.Proposed.TheVariants as Fresh
-use Rattle.branches.specs.declared.Committed.{Committed}
-use Rattle.branches.specs.declared.Committed.TheVariants.{Wrote, BranchUnfit, ProposalDiffers, Refused}
+use Rattle.branches.specs.declared.ProposeError.{ProposeError}
+use Rattle.branches.specs.declared.ProposeError.TheVariants as Fresh
+use Rattle.branches.specs.declared.CommitError.{CommitError}
+use Rattle.branches.specs.declared.CommitError.TheVariants.{BranchUnfit, ProposalDiffers, Refused}
+
+-- what commit answers: the length of the new sheet, or why it wrote none
+abbrev pub Committed : Type 0
+Committed = Result ℕ CommitError
 
 -- not "a proposal that differs from the fresh one": no part of the two differs
 unfoldable pub same_proposal : Proposal → Proposal → Bool
@@ -21,13 +25,17 @@ same_proposal q fresh = eqb q.insertion fresh.insertion && (eqb q.length fresh.l
 -- "in commit a proposal that differs from the fresh one with 41, placed after 12 and before a short output"; document 01: "22: output
 -- buffer too short"; else the length of the new sheet
 abbrev pub answer_proposal : Bool → ℕ → ℕ → Committed
-answer_proposal same size room = pick same (pick (leb size room) (Wrote size) (Refused OutputShort)) ProposalDiffers
+answer_proposal same size room = pick same (pick (leb size room) (Ok size) (Err (Refused OutputShort))) (Err ProposalDiffers)
+
+-- what commit answers where propose turns its input down
+abbrev pub stopped_by : ProposeError → CommitError
+stopped_by Fresh.BranchUnfit = BranchUnfit
+stopped_by (Fresh.Refused x) = Refused x
 
 -- "checks everything afresh": what propose answers now comes first; its proposal is the fresh one
 abbrev pub answer_commit : Proposed → Proposal → ℕ → ℕ → Committed
-answer_commit (Fresh.Offered fresh) q size room = answer_proposal (same_proposal q fresh) size room
-answer_commit Fresh.BranchUnfit q size room = BranchUnfit
-answer_commit (Fresh.Refused x) q size room = Refused x
+answer_commit (Ok fresh) q size room = answer_proposal (same_proposal q fresh) size room
+answer_commit (Err x) q size room = Err (stopped_by x)
 
 -- what commit answers for every sheet, transition, proposal and output of so many bytes
 unfoldable pub committed_of : List ℕ → LabelledTransition → Proposal → ℕ → Committed
@@ -36,10 +44,8 @@ committed_of s t q room = answer_commit (proposed_of s t) q (length (sheet_with 
 -- the new sheet at the front of the output; document 02 (c), "Here and in later requests": "output bytes past what is written stay
 -- unchanged"; document 01: a refused call "changes no buffer"
 abbrev pub leaves : List ℕ → List ℕ → Committed → List ℕ
-leaves new out (Wrote n) = new ++ drop n out
-leaves new out BranchUnfit = out
-leaves new out ProposalDiffers = out
-leaves new out (Refused x) = out
+leaves new out (Ok n) = new ++ drop n out
+leaves new out (Err x) = out
 
 -- the output buffer after the call
 unfoldable pub output_after : List ℕ → LabelledTransition → Proposal → List ℕ → List ℕ
@@ -53,12 +59,12 @@ pub record CommitReport : Type 0 where
 
 -- document 01: "An accepted call gives number 0 and place 0."; on a refusal its number and place, "lengths and any further result number 0"
 abbrev pub reported_commit : Committed → CommitReport
-reported_commit (Wrote n) = record { number = 0; place = 0; size = n }
+reported_commit (Ok n) = record { number = 0; place = 0; size = n }
 -- "It refuses a transition out of range, present already, or beyond 2,048 with 40"; document 01: "Other places are 0."
-reported_commit BranchUnfit = record { number = 40; place = 0; size = 0 }
+reported_commit (Err BranchUnfit) = record { number = 40; place = 0; size = 0 }
 -- "and in commit a proposal that differs from the fresh one with 41"
-reported_commit ProposalDiffers = record { number = 41; place = 0; size = 0 }
-reported_commit (Refused x) = record { number = number_of x; place = place_of x; size = 0 }
+reported_commit (Err ProposalDiffers) = record { number = 41; place = 0; size = 0 }
+reported_commit (Err (Refused x)) = record { number = number_of x; place = place_of x; size = 0 }
 
 -- what commit reports for every sheet, transition, proposal and output
 abbrev pub commit_report_of : List ℕ → LabelledTransition → Proposal → ℕ → CommitReport

@@ -6,6 +6,7 @@ ghost use Rattle.branches.specs.Internal.Inserting.{head_with, transition_bytes,
 
 use sheet::Transition;
 use sheet::plan::{action_count, state_count, transition_count};
+use text::Writer;
 
 // The longest plan: 4 bytes and 2,048 transitions of three.
 pub(crate) const LONGEST_PLAN: usize = 6148;
@@ -14,13 +15,8 @@ pub(crate) const LONGEST_PLAN: usize = 6148;
 fn plan_head(plan: &[u8]) -> [u8; 4]
     ensures { result ≡ head_with plan.now }
 {
-    let count = transition_count(plan) as usize + 1;
-    [
-        state_count(plan),
-        action_count(plan),
-        (count % 256) as u8,
-        (count / 256 % 256) as u8,
-    ]
+    let [low, high, ..] = (usize::from(transition_count(plan)) + 1).to_le_bytes();
+    [state_count(plan), action_count(plan), low, high]
 }
 
 // The three bytes of a transition.
@@ -35,11 +31,11 @@ pub(crate) fn insert(plan: &[u8], branch: Transition, place: usize, room: &mut [
     requires { Inserting plan.now place room.old }
     ensures { Puts (plan_with_at plan.now (labelled branch) place) result room.old room.new }
 {
-    let head = plan_head(plan);
     let middle = 4 + 3 * place;
-    let after_head = text::put(&head, 0, room);
-    let after_front = text::put(&plan[4..middle], after_head, room);
-    let new = bytes_of(branch);
-    let after_new = text::put(&new, after_front, room);
-    text::put(&plan[middle..], after_new, room)
+    let mut writer = Writer::new(room);
+    writer.put(&plan_head(plan));
+    writer.put(&plan[4..middle]);
+    writer.put(&bytes_of(branch));
+    writer.put(&plan[middle..]);
+    writer.place
 }

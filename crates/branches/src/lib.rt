@@ -11,114 +11,101 @@ mod placing;
 pub mod proposing;
 mod tagging;
 
-ghost use Rattle.std.specs.Prelude.{◌≡◌};
+ghost use Rattle.std.specs.Prelude.{◌≡◌, Err};
 ghost use Rattle.branches.specs.Proposing.{reported_proposal};
-ghost use Rattle.branches.specs.Committing.{reported_commit};
+ghost use Rattle.branches.specs.Committing.{reported_commit, stopped_by};
+ghost use Rattle.branches.specs.declared.ProposeError.TheVariants as Proposing;
+ghost use Rattle.branches.specs.declared.CommitError.TheVariants.{Refused};
 
 use sheet::{Numbered, Refusal};
 
 // How many transitions stand before the new one, which is its number; the length of the new file; and the tag of the old one.
-#[derive(Clone, Copy)]
+#[derive(Clone, Copy, Debug, Default, PartialEq, Eq)]
 pub struct Proposal {
     pub insertion: u16,
     pub length: usize,
     pub tag: u32,
 }
 
-// What propose answers.
-#[derive(Clone, Copy)]
-pub enum Proposed {
-    Offered(Proposal),
+// Why a transition isn't proposed: the plan does not take it, or the sheet's own refusal.
+#[derive(Clone, Copy, Debug, PartialEq, Eq)]
+pub enum ProposeError {
     BranchUnfit,
     Refused(Refusal),
 }
 
-impl Proposed {
-    // Its number: 0, 40 for a transition that the plan does not take, or that of the refusal.
-    pub fn number(self) -> u8
-        ensures { result ≡ (reported_proposal self).number }
-    {
+impl From<Refusal> for ProposeError {
+    ghost from_gives = { λ x e. e ≡ Proposing.Refused x };
+
+    fn from(x: Refusal) -> ProposeError {
+        ProposeError::Refused(x)
+    }
+}
+
+impl Numbered for ProposeError {
+    ghost number = { λ e. (reported_proposal (Err e)).number };
+
+    ghost place = { λ e. (reported_proposal (Err e)).place };
+
+    fn number(&self) -> u8 {
         match self {
-            Proposed::Offered(_) => 0,
-            Proposed::BranchUnfit => 40,
-            Proposed::Refused(x) => x.number(),
+            ProposeError::BranchUnfit => 40,
+            ProposeError::Refused(x) => x.number(),
         }
     }
 
-    // The place of the refusal, or 0.
-    pub fn place(self) -> u16
-        ensures { result ≡ (reported_proposal self).place }
-    {
+    fn place(&self) -> u16 {
         match self {
-            Proposed::Offered(_) => 0,
-            Proposed::BranchUnfit => 0,
-            Proposed::Refused(x) => x.place(),
-        }
-    }
-
-    // The proposal, all 0 on a refusal.
-    pub fn proposal(self) -> Proposal
-        ensures { result ≡ (reported_proposal self).proposal }
-    {
-        match self {
-            Proposed::Offered(q) => q,
-            Proposed::BranchUnfit => Proposal {
-                insertion: 0,
-                length: 0,
-                tag: 0,
-            },
-            Proposed::Refused(_) => Proposal {
-                insertion: 0,
-                length: 0,
-                tag: 0,
-            },
+            ProposeError::BranchUnfit => 0,
+            ProposeError::Refused(x) => x.place(),
         }
     }
 }
 
-// What commit answers: the length of the new sheet, or why it wrote none.
-#[derive(Clone, Copy)]
-pub enum Committed {
-    Wrote(usize),
+// Why no sheet is written: the plan does not take the transition, the proposal is not the fresh one, or a refusal, that of a short output among them.
+#[derive(Clone, Copy, Debug, PartialEq, Eq)]
+pub enum CommitError {
     BranchUnfit,
     ProposalDiffers,
     Refused(Refusal),
 }
 
-impl Committed {
-    // Its number: 0, 40 for a transition that the plan does not take, 41 for a proposal that differs, or that of the refusal.
-    pub fn number(self) -> u8
-        ensures { result ≡ (reported_commit self).number }
-    {
+impl From<Refusal> for CommitError {
+    ghost from_gives = { λ x e. e ≡ Refused x };
+
+    fn from(x: Refusal) -> CommitError {
+        CommitError::Refused(x)
+    }
+}
+
+impl From<ProposeError> for CommitError {
+    ghost from_gives = { λ x e. e ≡ stopped_by x };
+
+    fn from(x: ProposeError) -> CommitError {
+        match x {
+            ProposeError::BranchUnfit => CommitError::BranchUnfit,
+            ProposeError::Refused(x) => CommitError::Refused(x),
+        }
+    }
+}
+
+impl Numbered for CommitError {
+    ghost number = { λ e. (reported_commit (Err e)).number };
+
+    ghost place = { λ e. (reported_commit (Err e)).place };
+
+    fn number(&self) -> u8 {
         match self {
-            Committed::Wrote(_) => 0,
-            Committed::BranchUnfit => 40,
-            Committed::ProposalDiffers => 41,
-            Committed::Refused(x) => x.number(),
+            CommitError::BranchUnfit => 40,
+            CommitError::ProposalDiffers => 41,
+            CommitError::Refused(x) => x.number(),
         }
     }
 
-    // The place of the refusal, or 0.
-    pub fn place(self) -> u16
-        ensures { result ≡ (reported_commit self).place }
-    {
+    fn place(&self) -> u16 {
         match self {
-            Committed::Wrote(_) => 0,
-            Committed::BranchUnfit => 0,
-            Committed::ProposalDiffers => 0,
-            Committed::Refused(x) => x.place(),
-        }
-    }
-
-    // The length of the new sheet, or 0.
-    pub fn length(self) -> usize
-        ensures { result ≡ (reported_commit self).size }
-    {
-        match self {
-            Committed::Wrote(n) => n,
-            Committed::BranchUnfit => 0,
-            Committed::ProposalDiffers => 0,
-            Committed::Refused(_) => 0,
+            CommitError::BranchUnfit | CommitError::ProposalDiffers => 0,
+            CommitError::Refused(x) => x.place(),
         }
     }
 }

@@ -4,5 +4,5 @@ pub mod Marking
 pub mod Reached
 pub mod FewStates
 pub mod LayerLists
-pub mod Layer
+pub mod Links
 pub mod OrderSteps

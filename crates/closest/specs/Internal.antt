@@ -1,4 +1,5 @@
 pub mod Distances
+pub mod Layers
 pub mod Ordering
 pub mod Answering
 pub mod Tracing

@@ -4,6 +4,7 @@
 
 mod distances;
 pub mod finding;
+mod layers;
 mod ordering;
 mod states;
 pub mod tracing;

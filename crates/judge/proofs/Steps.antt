@@ -5,6 +5,7 @@ pub mod StateScans
 pub mod QueryAnswers
 pub mod PackedVerdicts
 pub mod Products
+pub mod RightCount
 pub mod BinderSteps
 pub mod PrepareSteps
 pub mod PrepareAudit

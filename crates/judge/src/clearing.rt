@@ -1,7 +1,7 @@
 // Clearing: the table of a sheet is made empty.
 ghost use Rattle.judge.specs.Clearing.{Clears};
 
-use crate::table::{cell_bytes, table_bytes_for, zero};
+use crate::table::{cell_bytes, table_bytes_for};
 use sheet::Refusal;
 use sheet::reader::check;
 
@@ -15,6 +15,6 @@ pub fn clear(sheet: &[u8], table: &mut [u8]) -> Result<(), Refusal>
     if table.len() < size {
         return Err(Refusal::TableShort);
     }
-    zero(table, size);
+    table[..size].fill(0);
     Ok(())
 }

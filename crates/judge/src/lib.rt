@@ -14,7 +14,6 @@ pub mod querying;
 mod scanning;
 pub mod table;
 pub mod turns;
-mod widen;
 
 ghost use Rattle.std.specs.Prelude.{◌≡◌};
 
@@ -46,7 +45,7 @@ pub struct JudgedInTurn {
 }
 
 // Why a query turns its input down. The count is wrong where it differs from the number of filled cells.
-#[derive(Clone, Copy)]
+#[derive(Clone, Copy, Debug, PartialEq, Eq)]
 pub enum QueryError {
     WrongCount,
     Refused(Refusal),
@@ -82,25 +81,4 @@ impl Numbered for QueryError {
             QueryError::Refused(x) => x.place(),
         }
     }
-}
-
-// What a pass over cells tells: a byte over 2, or how many are filled.
-#[derive(Clone, Copy)]
-pub(crate) enum Scanned {
-    ByteOver,
-    Filled(usize),
-}
-
-// What a pass over a block of fewer than 256 cells tells. over is 0 where no byte is over 2, and then filled is how many are filled.
-#[derive(Clone, Copy)]
-pub(crate) struct Block {
-    over: u8,
-    filled: u8,
-}
-
-// What a walk along a list of states tells: how many verdicts were true up to the first that was not, and the visits.
-#[derive(Clone, Copy)]
-pub(crate) struct Walked {
-    passed: usize,
-    visits: usize,
 }

@@ -1,5 +1,5 @@
 // The table's bytes: how many there are, where a cell's byte is, what it says, and how it is filled; the count after the cells.
-ghost use Rattle.std.specs.Prelude.{◌≡◌, ◌+◌, ◌*◌, ◌<◌, ◌≤◌, ◌++◌, length, take, drop, replicate, slice_index, slice_set};
+ghost use Rattle.std.specs.Prelude.{◌≡◌, ◌+◌, ◌*◌, ◌<◌, ◌≤◌, ◌++◌, length, take, drop, slice_index, slice_set};
 ghost use Rattle.rows.specs.Tables.{byte_of};
 ghost use Rattle.judge.specs.Cells.{cell_bytes, count_bytes, table_bytes_for, table_bytes};
 ghost use Rattle.judge.specs.StoredCount.{number_at, in_four_bytes};
@@ -10,28 +10,20 @@ ghost use Rattle.judge.specs.Internal.Packed.{Known, OneVisitMore, verdict_in, p
 use crate::COUNT_BYTES;
 use crate::index::Index;
 use crate::packed::is_true;
-use crate::widen::{byte_as_u32, wide};
 use sheet::plan::state_count;
 use sheet::reader::{plan_body, rule_body};
 use sheet::rule::{binder_count, node_count};
 use sheet::{Node, State};
-
-fn product(a: usize, b: usize, c: usize) -> usize
-    requires { (a < 256) × ((b < 256) × (c ≤ 256)) }
-    ensures { (result ≡ a * b * c) × (result ≤ product_bound) }
-{
-    a * b * c
-}
 
 // A byte for each cell: states × nodes × (binders + 1).
 pub(crate) fn cell_bytes(sheet: &[u8]) -> usize
     ensures { (result ≡ cell_bytes sheet.now) × (result ≤ product_bound) }
 {
     let rule = rule_body(sheet);
-    let states = wide(state_count(plan_body(sheet)));
-    let nodes = wide(node_count(rule));
-    let binders = wide(binder_count(rule));
-    product(states, nodes, binders + 1)
+    let states = usize::from(state_count(plan_body(sheet)));
+    let nodes = usize::from(node_count(rule));
+    let marks = usize::from(binder_count(rule)) + 1;
+    states * nodes * marks
 }
 
 // The same, with the numbers of nodes and marks read from the index.
@@ -39,8 +31,8 @@ pub(crate) fn cell_bytes_prepared(sheet: &[u8], index: &Index) -> usize
     requires { HeadRight sheet.now index.now }
     ensures { (result ≡ cell_bytes sheet.now) × (result ≤ product_bound) }
 {
-    let states = wide(state_count(plan_body(sheet)));
-    product(states, wide(index.nodes), wide(index.marks))
+    let states = usize::from(state_count(plan_body(sheet)));
+    states * index.nodes as usize * index.marks as usize
 }
 
 // The bytes of a table that has so many bytes of cells: the cells, and the count after them.
@@ -58,41 +50,19 @@ pub fn table_size(sheet: &[u8]) -> usize
     table_bytes_for(cell_bytes(sheet))
 }
 
-pub(crate) fn zero(table: &mut [u8], size: usize)
-    requires { size ≤ length table.old }
-    ensures { table.new ≡ replicate size 0 ++ drop size table.old }
-{
-    let mut i = 0;
-    while i < size {
-        table[i] = 0;
-        i += 1;
-    }
-}
-
-// What a byte of a number counts for, low byte first.
-const SECOND: u32 = 256;
-
-const THIRD: u32 = SECOND * 256;
-
-const FOURTH: u32 = THIRD * 256;
-
 // The number that four bytes hold, low byte first.
 pub(crate) fn number_at(table: &[u8], at: usize) -> u32
     requires { at + count_bytes ≤ length table.now }
     ensures { result ≡ number_at table.now at }
 {
-    let low = byte_as_u32(table[at]) + SECOND * byte_as_u32(table[at + 1]);
-    low + THIRD * byte_as_u32(table[at + 2]) + FOURTH * byte_as_u32(table[at + 3])
+    u32::from_le_bytes([table[at], table[at + 1], table[at + 2], table[at + 3]])
 }
 
 pub(crate) fn put_number(table: &mut [u8], at: usize, n: u32)
     requires { at + count_bytes ≤ length table.old }
     ensures { table.new ≡ take at table.old ++ (in_four_bytes n ++ drop (at + count_bytes) table.old) }
 {
-    table[at] = (n % 256) as u8;
-    table[at + 1] = (n / SECOND % 256) as u8;
-    table[at + 2] = (n / THIRD % 256) as u8;
-    table[at + 3] = (n / FOURTH % 256) as u8;
+    table[at..at + COUNT_BYTES].copy_from_slice(&n.to_le_bytes());
 }
 
 // The byte of the table that holds a cell.
@@ -107,7 +77,7 @@ pub(crate) fn cell_position(index: &Index, mark: u8, node: Node, state: State) -
 pub(crate) fn known_verdict(b: u8) -> u32
     ensures { Known b result }
 {
-    if b == 2 { 1 } else { 0 }
+    u32::from(b == 2)
 }
 
 // The cell at a byte is given its value, and counts as one visit more.
@@ -116,10 +86,6 @@ pub(crate) fn fill_cell(table: &mut [u8], at: usize, w: u32) -> u32
     ensures one_visit_more { OneVisitMore w result }
     ensures table_after { table.new ≡ slice_set table.old at (byte_of (verdict_in w)) }
 {
-    if is_true(w) {
-        table[at] = 2;
-        return w + 2;
-    }
-    table[at] = 1;
+    table[at] = if is_true(w) { 2 } else { 1 };
     w + 2
 }

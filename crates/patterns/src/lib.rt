@@ -30,7 +30,7 @@ pub(crate) type Places = [u8; LONGEST_PATTERN];
 pub(crate) struct Oversize;
 
 // Why the translation turns its input down.
-#[derive(Clone, Copy)]
+#[derive(Clone, Copy, Debug, PartialEq, Eq)]
 pub enum TranslateError {
     Malformed,
     TooLarge,

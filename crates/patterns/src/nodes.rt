@@ -4,13 +4,22 @@ ghost use Rattle.patterns.specs.Internal.Nodes.{Movable, moved, pair_fields, mod
 
 use sheet::{Fields, Node, Variable};
 
+// The kinds of nodes as a rule body has them; the mirror's is one more.
+const OR: u8 = 2;
+
+const SOME: u8 = 4;
+
+const VARIABLE: u8 = 6;
+
+const LEAST: u8 = 7;
+
 // An "or" at node n, whose first child's nodes end before m: there its second child comes, where there is room, so m is a plain number.
 pub(crate) fn pair(every: bool, n: Node, m: u8) -> Fields
     requires { n.0 < 64 }
     ensures { result ≡ pair_fields every n.0 m }
 {
     Fields {
-        kind: 2 + u8::from(every),
+        kind: OR + u8::from(every),
         x: n.0 + 1,
         y: m,
     }
@@ -22,7 +31,7 @@ pub(crate) fn modal(every: bool, n: Node, entry: u8) -> Fields
     ensures { result ≡ modal_fields every n.0 entry }
 {
     Fields {
-        kind: 4 + u8::from(every),
+        kind: SOME + u8::from(every),
         x: entry,
         y: n.0 + 1,
     }
@@ -32,7 +41,7 @@ pub(crate) fn variable(x: Variable) -> Fields
     ensures { result ≡ variable_fields x.0 }
 {
     Fields {
-        kind: 6,
+        kind: VARIABLE,
         x: x.0,
         y: 0,
     }
@@ -44,13 +53,13 @@ pub(crate) fn binder(every: bool, n: Node, x: Variable) -> Fields
     ensures { result ≡ binder_fields every n.0 x.0 }
 {
     Fields {
-        kind: 7 + u8::from(every),
+        kind: LEAST + u8::from(every),
         x: x.0,
         y: n.0 + 1,
     }
 }
 
-// A node of the sheet's rule, where n nodes and b binders stand before the rule.
+// A node of the sheet's rule, whose kind is a byte of its body, where n nodes and b binders stand before the rule.
 pub(crate) fn moved(f: Fields, n: u8, b: u8) -> Fields
     requires { Movable f n b }
     ensures { result ≡ moved n b f }

@@ -3,6 +3,7 @@ ghost use Rattle.reference.specs.Reference.{References};
 
 use crate::sets::{Context, States};
 use crate::table1::{Judge, meetings};
+use sheet::kinds::NodeKind;
 use sheet::plan::{action_count, state_count};
 use sheet::reader::{actions_body, check, plan_body, rule_body};
 use sheet::{Node, Refusal};
@@ -23,6 +24,6 @@ pub fn reference(sheet: &[u8]) -> Result<u64, Refusal>
         full: States::all(states),
     };
     let mut context = Context::new();
-    context.restart(rule_body(sheet), Node(0), 8, judge.full);
+    context.restart(rule_body(sheet), Node(0), NodeKind::Greatest, judge.full);
     Ok(judge.evaluate(Node(0), &mut context).word())
 }

@@ -1,9 +1,11 @@
 // Sets of states, and the context that gives each variable its set.
 ghost use Rattle.std.specs.Prelude.{◌≡◌, ℕ, List, ◌-◌, ◌^◌, ◌<◌, ◌≤◌, get_or, set, replicate, bit_and, bit_or, bit_xor};
 ghost use Rattle.calculus.specs.MeetingMask.{bit};
+ghost use Rattle.sheet.specs.KindNumbers.{node_kind_number};
 ghost use Rattle.sheet.specs.Rule.{node_count};
 ghost use Rattle.reference.specs.Internal.Evaluating.{Restartable, Restarted};
 
+use sheet::kinds::NodeKind;
 use sheet::rule::{node, node_count};
 use sheet::{Node, State, Variable};
 use std::marker::Model;
@@ -139,13 +141,13 @@ impl Context {
     }
 
     // The same set for each variable that a fixed point of the kind binds from a node on.
-    pub(crate) fn restart(&mut self, rule: &[u8], first: Node, kind: u8, states: States)
-        requires { Restartable rule.now first.0 kind }
-        ensures { Restarted rule.now first.0 (node_count rule.now) kind states self.old self.new }
+    pub(crate) fn restart(&mut self, rule: &[u8], first: Node, kind: NodeKind, states: States)
+        requires { Restartable rule.now first.0 (node_kind_number kind) }
+        ensures { Restarted rule.now first.0 (node_count rule.now) (node_kind_number kind) states self.old self.new }
     {
         for n in first.0..node_count(rule) {
             let fields = node(rule, Node(n));
-            if fields.kind == kind {
+            if fields.kind == kind as u8 {
                 self.put(Variable(fields.x), states);
             }
         }

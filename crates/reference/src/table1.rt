@@ -85,7 +85,7 @@ impl<'a> Judge<'a> {
                     return states;
                 }
                 context.put(Variable(x), next);
-                context.restart(rule, Node(y), 8, self.full);
+                context.restart(rule, Node(y), NodeKind::Greatest, self.full);
             },
             // What its image lacks is taken away until nothing is.
             NodeKind::Greatest => loop {
@@ -96,7 +96,7 @@ impl<'a> Judge<'a> {
                     return states;
                 }
                 context.put(Variable(x), next);
-                context.restart(rule, Node(y), 7, States::none());
+                context.restart(rule, Node(y), NodeKind::Least, States::none());
             },
         }
     }

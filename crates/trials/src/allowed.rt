@@ -1,6 +1,7 @@
 // Request 16: one allowance of visits for several benches.
 use crate::connection::{Connection, Stop};
 use allowance::Bench;
+use sheet::Numbered;
 
 pub(crate) fn answer(connection: &mut Connection) -> Result<(), Stop> {
     let sheet = connection.read_blob()?;
@@ -8,12 +9,17 @@ pub(crate) fn answer(connection: &mut Connection) -> Result<(), Stop> {
     let visits = connection.read_u32()?;
     let mut tables = connection.read_blob()?;
     let granted = allowance::granting::grant(&sheet, &states, visits, &mut tables);
-    let answer = granted.answer;
-    println!(connection.output; "allowance {} {}", answer.number(), answer.place())?;
-    if answer.number() == 0 {
-        // a bench for each state
-        for (bench, _) in granted.benches.iter().zip(&states) {
-            let Bench { need, grant, short, verdict, visits } = *bench;
+    println!(connection.output; "allowance {} {}", granted.number(), granted.place())?;
+    if let Ok(benches) = granted {
+        // The first benches are those of the states.
+        for &bench in benches.iter().take(states.len()) {
+            let Bench {
+                need,
+                grant,
+                short,
+                verdict,
+                visits,
+            } = bench;
             println!(connection.output; "bench {need} {grant} {short} {verdict} {visits}")?;
         }
     }

@@ -1,7 +1,13 @@
 // Requests 12 and 13: a branch is proposed for a sheet, and added to one by a proposal.
 use crate::connection::{Connection, Stop};
 use branches::Proposal;
-use sheet::{Action, State, Transition};
+use sheet::{Action, Numbered, State, Transition};
+
+const NO_PROPOSAL: Proposal = Proposal {
+    insertion: 0,
+    length: 0,
+    tag: 0,
+};
 
 // A transition: from, action, to.
 fn read_branch(connection: &mut Connection) -> Result<Transition, Stop> {
@@ -29,9 +35,8 @@ pub(crate) fn answer_propose(connection: &mut Connection) -> Result<(), Stop> {
         insertion,
         length,
         tag,
-    } = proposed.proposal();
-    println!(
-        connection.output;
+    } = proposed.unwrap_or(NO_PROPOSAL);
+    println!(connection.output;
         "propose {} {} {insertion} {length} {tag}",
         proposed.number(),
         proposed.place()
@@ -45,12 +50,6 @@ pub(crate) fn answer_commit(connection: &mut Connection) -> Result<(), Stop> {
     let proposal = read_proposal(connection)?;
     let mut out = connection.read_buffer()?;
     let length = branches::committing::commit(&sheet, branch, proposal, &mut out);
-    println!(
-        connection.output;
-        "commit {} {} {}",
-        length.number(),
-        length.place(),
-        length.length()
-    )?;
+    connection.write_answer("commit", length)?;
     connection.write_bytes("out", &out)
 }

@@ -1,5 +1,7 @@
 // What a request's operands are read from, low byte first, and its lines are written to.
+use sheet::Numbered;
 use std::alloc::{AllocError, Global};
+use std::fmt::Display;
 use std::io;
 use std::io::{Stdin, Stdout};
 
@@ -84,6 +86,19 @@ impl Connection {
         let length = self.read_u16()?;
         let byte = self.read_u8()?;
         Ok(vec![in self.alloc; byte; usize::from(length)]?)
+    }
+
+    // A line of a word, the number and the place of an answer, and what the call gives: 0 or false where it turned its input down.
+    pub(crate) fn write_answer<T: Display + Default + Drop, E: Numbered + Drop>(
+        &self,
+        word: &str,
+        answer: Result<T, E>,
+    ) -> Result<(), Stop> {
+        let number = answer.number();
+        let place = answer.place();
+        let given = answer.unwrap_or_default();
+        println!(self.output; "{word} {number} {place} {given}")?;
+        Ok(())
     }
 
     // A line of a word and the bytes of a buffer, two digits each.

@@ -5,12 +5,6 @@ pub(crate) fn answer(connection: &mut Connection) -> Result<(), Stop> {
     let text = connection.read_blob()?;
     let mut out = connection.read_buffer()?;
     let length = aut::converting::convert(&text, &mut out);
-    println!(
-        connection.output;
-        "aut {} {} {}",
-        length.number(),
-        length.place(),
-        length.length()
-    )?;
+    connection.write_answer("aut", length)?;
     connection.write_bytes("out", &out)
 }

@@ -1,19 +1,24 @@
 // Request 17: the closest state that breaks the rule.
 use crate::connection::{Connection, Stop};
+use closest::Closest;
+use sheet::Numbered;
+
+const NOT_SEARCHED: Closest = Closest {
+    first: None,
+    visits: 0,
+};
 
 pub(crate) fn answer(connection: &mut Connection) -> Result<(), Stop> {
     let sheet = connection.read_blob()?;
     let mut table = connection.read_blob()?;
-    let closest = closest::finding::find_closest(&sheet, &mut table);
-    println!(
-        connection.output;
-        "closest {} {} {} {} {} {}",
-        closest.number(),
-        closest.place(),
-        closest.found(),
-        closest.state().0,
-        closest.steps(),
-        closest.visits()
+    let answer = closest::finding::find_closest(&sheet, &mut table);
+    let Closest { first, visits } = answer.unwrap_or(NOT_SEARCHED);
+    let (state, steps) = first.map_or((0, 0), |failing| (failing.state.0, failing.steps));
+    println!(connection.output;
+        "closest {} {} {} {state} {steps} {visits}",
+        answer.number(),
+        answer.place(),
+        first.is_some()
     )?;
     connection.write_bytes("table", &table)
 }

@@ -17,8 +17,7 @@ pub(crate) fn query(
 ) -> Result<(), Stop> {
     let answer = judge::querying::query(sheet, state, table);
     let Judged { verdict, visits } = answer.unwrap_or(NOT_JUDGED);
-    println!(
-        connection.output;
+    println!(connection.output;
         "query {} {} {verdict} {visits}",
         answer.number(),
         answer.place()

@@ -21,8 +21,7 @@ pub(crate) fn answer(connection: &mut Connection) -> Result<(), Stop> {
         actions,
         rule,
     } = read.unwrap_or(NO_BODIES);
-    println!(
-        connection.output;
+    println!(connection.output;
         "read {} {} {} {} {} {} {} {}",
         read.number(),
         read.place(),

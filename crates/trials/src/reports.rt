@@ -7,13 +7,7 @@ pub(crate) fn answer(connection: &mut Connection) -> Result<(), Stop> {
     let mut table = connection.read_buffer()?;
     let mut out = connection.read_buffer()?;
     let length = report::reporting::report(&sheet, &states, &mut table, &mut out);
-    println!(
-        connection.output;
-        "report {} {} {}",
-        length.number(),
-        length.place(),
-        length.length()
-    )?;
+    connection.write_answer("report", length)?;
     connection.write_bytes("table", &table)?;
     connection.write_bytes("out", &out)
 }

@@ -1,6 +1,5 @@
 // Request 6: three blobs are written as a sheet.
 use crate::connection::{Connection, Stop};
-use sheet::Numbered;
 
 pub(crate) fn answer(connection: &mut Connection) -> Result<(), Stop> {
     let plan = connection.read_blob()?;
@@ -8,12 +7,6 @@ pub(crate) fn answer(connection: &mut Connection) -> Result<(), Stop> {
     let rule = connection.read_blob()?;
     let mut out = connection.read_buffer()?;
     let length = sheet::writer::write(&plan, &actions, &rule, &mut out);
-    println!(
-        connection.output;
-        "write {} {} {}",
-        length.number(),
-        length.place(),
-        length.unwrap_or(0)
-    )?;
+    connection.write_answer("write", length)?;
     connection.write_bytes("out", &out)
 }

@@ -1,4 +1,5 @@
 -- Every call of `grant` that keeps its contract gives the right number, and where it is accepted what each bench gets is right.
+use Rattle.std.specs.Prelude.{Ok, Err}
 use Prim.Native.Nat.{ℕ, ◌<◌, ◌≤◌}
 use mathlib.Core.Path.{◌≡◌, refl, sym, ap, subst, ◌∙◌}
 use mathlib.Core.Bool.{Bool}
@@ -20,10 +21,10 @@ use Rattle.allowance.specs.Granting.{tables_left, AnswerReport, reported_answer,
 use Rattle.allowance.specs.GrantsCorrect.{WrongBenchCount, GrantNumbers, BenchRight}
 use Rattle.allowance.specs.GrantsCorrect.{bench_at, GrantCorrect, GrantsCorrect}
 use Rattle.allowance.specs.Internal.Benches.{ReportsZeroBelow}
-use Rattle.allowance.specs.declared.Answer.{Answer}
-use Rattle.allowance.specs.declared.Answer.TheVariants.{Dealt, BenchCountWrong, WrongCount, Refused}
+use Rattle.allowance.specs.Granting.{Answer}
+use Rattle.allowance.specs.declared.GrantError.TheVariants.{BenchCountWrong, WrongCount, Refused}
 use Rattle.allowance.specs.declared.Bench.{Bench}
-use Rattle.allowance.specs.declared.Granted.{Granted}
+use Rattle.allowance.specs.Granting.{Granted, answer_in, benches_in}
 use Rattle.allowance.proofs.Lists.ForBenches.{for_length, for_first, for_past}
 use Rattle.allowance.proofs.Tables.Answers.{need_count, need_of_bench, refused_nothing}
 use Rattle.allowance.proofs.Tables.Outcomes.{outcome, to_0, some_bench, forty_four, own_refusal}
@@ -41,10 +42,10 @@ module _ (s states : List ℕ) (allowance : ℕ) (t : List ℕ) where
   accepted_gives : (a : Answer) → (reported_answer a).number ≡ 0
       → (benches_by s states t allowance a ≡ benches_granted s states t grants)
       × (tables_by s states t allowance a ≡ tables_granted s states t grants)
-  accepted_gives Dealt e = (refl, refl)
-  accepted_gives BenchCountWrong e = absurd (omega arith)
-  accepted_gives WrongCount e = absurd (omega arith)
-  accepted_gives (Refused x) e = absurd (omega (arith, refused_number x))
+  accepted_gives (Ok tt) e = (refl, refl)
+  accepted_gives (Err BenchCountWrong) e = absurd (omega arith)
+  accepted_gives (Err WrongCount) e = absurd (omega arith)
+  accepted_gives (Err (Refused x)) e = absurd (omega (arith, refused_number x))
 
   defined_numbers : GrantNumbers s states t (answer_report_of s states t) (benches_for s states t allowance) (tables_left s states t allowance)
   unfolding benches_for tables_left
@@ -121,13 +122,13 @@ module _ (s states : List ℕ) (allowance : ℕ) (t : List ℕ) where
     }
 
   module _ (r : Granted) (u : List ℕ) (k : Grants s states allowance t r u) where
-    call_numbers_are : GrantNumbers s states t (reported_answer r.answer) r.benches u
+    call_numbers_are : GrantNumbers s states t (reported_answer (answer_in r)) (benches_in r) u
     call_numbers_are =
-        subst (λ (a : AnswerReport). GrantNumbers s states t a r.benches u) (sym k.1.0)
+        subst (λ (a : AnswerReport). GrantNumbers s states t a (benches_in r) u) (sym k.1.0)
         (subst (λ (b : List Bench). GrantNumbers s states t (answer_report_of s states t) b u) (sym k.1.1.0)
         (subst (GrantNumbers s states t (answer_report_of s states t) (benches_for s states t allowance)) (sym k.1.1.1) defined_numbers))
 
-    call_deals : (reported_answer r.answer).number ≡ 0 → GrantCorrect s states allowance t r.benches u
+    call_deals : (reported_answer (answer_in r)).number ≡ 0 → GrantCorrect s states allowance t (benches_in r) u
     unfolding benches_for tables_left
     call_deals e =
         let n : (answer_report_of s states t).number ≡ 0 = sym (ap (λ (a : AnswerReport). a.number) k.1.0) ∙ e in

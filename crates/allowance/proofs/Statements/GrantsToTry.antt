@@ -23,7 +23,7 @@ use Rattle.allowance.specs.Granting.{for_benches, bench_table, needs_of, grants_
 use Rattle.allowance.specs.GrantsCorrect.{WrongBenchCount, NoneRefusedBefore, BenchRight, bench_at}
 use Rattle.allowance.specs.GrantsToTry.{bench, GrantsToTry}
 use Rattle.allowance.specs.declared.Bench.{Bench}
-use Rattle.allowance.specs.declared.Granted.{Granted}
+use Rattle.allowance.specs.Granting.{Granted, answer_in, benches_in}
 use Rattle.allowance.proofs.Statements.GrantsCorrect.{grants_correct}
 
 abbrev states : List ℕ
@@ -122,11 +122,11 @@ none_refused j h q w k = (
 )
 
 module _ (allowance : ℕ) (r : Granted) (u : List ℕ) (k : Grants K states allowance tables r u) where
-  taken : (reported_answer r.answer).number ≡ 0
+  taken : (reported_answer (answer_in r)).number ≡ 0
   taken = (grants_correct.numbers K states allowance tables r u k).accepted.1 (right_count, none_refused)
 
   right_at : (i : ℕ) → i < 2 → BenchRight K (byte states i) (bench_table K tables i) (bench_table K u i)
-      (of_bench (needs_of K states tables) i) (of_bench (grants_of K states tables allowance) i) (bench_at r.benches i)
+      (of_bench (needs_of K states tables) i) (of_bench (grants_of K states tables allowance) i) (bench_at (benches_in r) i)
   right_at i h = (grants_correct.accepted K states allowance tables r u k taken).each i h
 
 pub grants_to_try : GrantsToTry

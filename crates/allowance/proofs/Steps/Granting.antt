@@ -1,14 +1,13 @@
 -- What the loop over the granted benches shows.
 use Prim.Native.Nat.{ℕ, suc, ◌+◌, ◌-◌, ◌*◌, ◌<◌, ◌≤◌}
-use mathlib.Core.Path.{◌≡◌, refl, sym, ap, ◌∙◌}
+use mathlib.Core.Path.{◌≡◌, refl, sym, ap, ap₂, ◌∙◌}
 use mathlib.Core.Bool.{Bool, true, false}
 use mathlib.Core.List.{List, ◌++◌, append_assoc}
 use native.Mathlib.Omega.{arith}
 use native.Mathlib.Decide.{ℕ_discrete}
-use lib.ListN.{length, get_or, set, take, drop, length-append, length-set, length-take, length-drop, take-append-drop}
+use lib.ListN.{length, get_or, set, take, drop, length-append, length-set, length-take, length-drop, length-map, get_or-map, take-append-drop}
 use lib.Seq.{get_or-set_same, get_or-set_other, drop-drop, take_at, drop_at}
-use lib.Dec.{ltb}
-use borrow.Author.Tests.{lt-ltb, le-ltb, ltb-true, ltb-false}
+use borrow.Author.Tests.{lt-ltb, le-ltb}
 use Rattle.sheet.specs.Bytes.{byte, slice, pick}
 use Rattle.sheet.specs.RunningCalls.{AllBytes}
 use Rattle.judge.specs.Cells.{table_bytes}
@@ -17,18 +16,18 @@ use Rattle.std.specs.Prelude.{Ok}
 use Rattle.judge.specs.Querying.{Queried}
 use Rattle.judge.proofs.Statements.QueryCorrect.{queries_correct}
 use Rattle.allowance.specs.Dealing.{of_bench}
-use Rattle.allowance.specs.Granting.{most_benches, end_to_end, queried_bench, short_bench, no_bench, no_benches, bench_table, bench_queried, bench_report, need_of}
-use Rattle.allowance.specs.Granting.{is_short, bench_of, table_of, benches_granted, tables_granted}
+use Rattle.allowance.specs.Granting.{end_to_end, queried_bench, short_bench, no_bench, bench_table, bench_queried, bench_report, need_of}
+use Rattle.allowance.specs.Granting.{is_short, bench_of, table_of, tables_granted}
 use Rattle.allowance.specs.Internal.Copies.{with_part}
-use Rattle.allowance.specs.Internal.Benches.{QueriesRequire, QueriesBenches}
+use Rattle.allowance.specs.Internal.Benches.{grants_in, QueriesRequire, QueriesBenches}
 use Rattle.allowance.specs.declared.Bench.{Bench}
-use Rattle.allowance.proofs.Lists.ForBenches.{for_first, for_each, replicate_at}
-use Rattle.allowance.proofs.Tables.Answers.{need_count, need_of_bench, verdict_count}
+use Rattle.allowance.proofs.Lists.ForBenches.{for_first, for_each}
+use Rattle.allowance.proofs.Tables.Answers.{need_count, need_of_bench}
 use Rattle.allowance.proofs.Tables.EndToEnd.{one_more_table}
 use Rattle.allowance.proofs.Tables.TablesAfter.{in_buffer}
 use Rattle.allowance.proofs.Tables.NothingFilled.{part_bytes, nothing_filled}
 
-module _ (s states t grants : List ℕ) where
+module _ (s states t grants : List ℕ) (start : List Bench) where
   abbrev size : ℕ
   size = table_bytes s
 
@@ -41,23 +40,23 @@ module _ (s states t grants : List ℕ) where
   -- the benches below i are done
   pub record Going (benches : List Bench) (u : List ℕ) (i : ℕ) : Type 0 where
     pub within : i ≤ length states
-    pub room : length benches ≡ most_benches
+    pub room : length benches ≡ length states
     pub done : (j : ℕ) → j < i → get_or benches j no_bench ≡ bench_of s states t grants j
-    pub rest : (j : ℕ) → i ≤ j → get_or benches j no_bench ≡ no_bench
+    pub rest : (j : ℕ) → i ≤ j → get_or benches j no_bench ≡ get_or start j no_bench
     pub length_same : length u ≡ length t
     pub ahead : drop (i * size) u ≡ drop (i * size) t
     pub behind : tables_granted s states t grants ≡ take (i * size) u ++ end_to_end table_now (length states - i) i after_tables
 
-  pub going_start : {benches : List Bench} → benches ≡ no_benches → Going benches t 0
+  pub going_start : length start ≡ length states → Going start t 0
   unfolding tables_granted
   going_start e =
       let z : 0 * size ≡ 0 = omega arith in
       let k : length states ≡ length states - 0 = omega arith in
       record {
         within = omega arith;
-        room = ap (length {A = Bench}) e;
+        room = e;
         done = λ j h. absurd (omega arith);
-        rest = λ j h. ap (λ (l : List Bench). get_or l j no_bench) e ∙ replicate_at most_benches j no_bench;
+        rest = λ j h. refl;
         length_same = refl;
         ahead = refl;
         behind = ap (λ (n : ℕ). end_to_end table_now n 0 after_tables) k
@@ -68,7 +67,7 @@ module _ (s states t grants : List ℕ) where
   unfolding end_to_end
   one_table count i = refl
 
-  module _ {benches : List Bench} {u : List ℕ} {i : ℕ} (w : Going benches u i) (h : i < length states) (few : length states ≤ most_benches) where
+  module _ {benches : List Bench} {u : List ℕ} {i : ℕ} (w : Going benches u i) (h : i < length states) where
     -- bench i is given these results, and its table is that after the call
     next : {b : Bench} {v : List ℕ} → b ≡ bench_of s states t grants i → i * size + size ≤ length t → length (table_now i) ≡ size
         → v ≡ with_part u (i * size) size (table_now i) → Going (set benches i b) v (i + 1)
@@ -152,7 +151,7 @@ module _ (s states t grants : List ℕ) where
         short = lt-ltb (of_bench grants i) (need_of s states t i) less
 
     -- the query of a bench with a need of 0 is known, and changes nothing
-    next_idle : {b : Bench} → b ≡ queried_bench 0 (of_bench grants i) (reported_query (Judged (bench_report s states t i).verdict 0))
+    next_idle : {b : Bench} → b ≡ queried_bench 0 (of_bench grants i) (reported_query (Ok (record { verdict = (bench_report s states t i).verdict; visits = 0 })))
         → i * size + size ≤ length t → need_of s states t i ≡ 0
         → table_queried s (byte states i) (bench_table s t i) ≡ bench_table s t i → Going (set benches i b) u (i + 1)
     next_idle e long none same = next_kept (e ∙ result ∙ sym (bench_by whole)) long (table_by_lem whole ∙ same)
@@ -160,10 +159,10 @@ module _ (s states t grants : List ℕ) where
         whole : is_short s states t grants i ≡ false
         whole = le-ltb (of_bench grants i) (need_of s states t i) (omega (arith, none))
 
-        result : queried_bench 0 (of_bench grants i) (reported_query (Judged (bench_report s states t i).verdict 0))
+        result : queried_bench 0 (of_bench grants i) (reported_query (Ok (record { verdict = (bench_report s states t i).verdict; visits = 0 })))
             ≡ queried_bench (need_of s states t i) (of_bench grants i) (bench_report s states t i)
         result =
-            ap (λ (m : ℕ). queried_bench m (of_bench grants i) (reported_query (Judged (bench_report s states t i).verdict m))) (sym none)
+            ap (λ (m : ℕ). queried_bench m (of_bench grants i) (reported_query (Ok (record { verdict = (bench_report s states t i).verdict; visits = m })))) (sym none)
 
     next_queried : {b : Bench} {v : List ℕ} {q : Queried} → q ≡ queried_of s (byte states i) (slice u (i * size) size)
         → b ≡ queried_bench (need_of s states t i) (of_bench grants i) (reported_query q) → i * size + size ≤ length t
@@ -187,21 +186,12 @@ module _ (s states t grants : List ℕ) where
             e ∙ ap (λ (x : Queried). queried_bench (need_of s states t i) (of_bench grants i) (reported_query x)) asked ∙ sym (bench_by whole)
 
   pub going_end : {benches : List Bench} {u : List ℕ} {i : ℕ} → Going benches u i → length states ≤ i → QueriesBenches s states t grants benches u
-  unfolding benches_granted end_to_end
-  going_end {benches} {u} {i} w h = (for_each result most_benches benches no_bench w.room each, sym (w.behind ∙ past))
+  unfolding end_to_end
+  going_end {benches} {u} {i} w h =
+      (for_each (bench_of s states t grants) (length states) benches no_bench w.room (λ j l. w.done j (omega arith)), sym (w.behind ∙ past))
     where
-      result : ℕ → Bench
-      result j = pick (ltb j (length states)) (bench_of s states t grants j) no_bench
-
       at_end : i ≡ length states
       at_end = omega (arith, w.within)
-
-      each : (j : ℕ) → j < most_benches → get_or benches j no_bench ≡ result j
-      each j l = go (ltb j (length states)) refl
-        where
-          go : (b : Bool) → ltb j (length states) ≡ b → get_or benches j no_bench ≡ pick b (bench_of s states t grants j) no_bench
-          go true e = w.done j (omega (arith, ltb-true j (length states) e))
-          go false e = w.rest j (omega (arith, ltb-false j (length states) e))
 
       past : take (i * size) u ++ end_to_end table_now (length states - i) i after_tables ≡ u
       past =
@@ -213,21 +203,9 @@ module _ (s states t grants : List ℕ) where
 
 -- ---- with the size of a table and the needs at hand
 
-module _ {s states t : List ℕ} {n : ℕ} {needs : List ℕ} {verdicts : List Bool} {grants : List ℕ}
-    (r : QueriesRequire s states t n needs verdicts grants) where
-  need_at : {i : ℕ} → i < length states → of_bench needs i ≡ need_of s states t i
-  need_at {i} h = ap (λ (l : List ℕ). of_bench l i) r.needed ∙ need_of_bench s states t i h
-
-  pub need_each : length needs ≡ length states
-  need_each = ap (length {A = ℕ}) r.needed ∙ need_count s states t
-
-  verdict_at : {i : ℕ} → i < length states → get_or verdicts i false ≡ (bench_report s states t i).verdict
-  verdict_at {i} h =
-      ap (λ (l : List Bool). get_or l i false) r.judged
-      ∙ for_first (λ j. (bench_report s states t j).verdict) (length states) i false h
-
-  pub judged_each : length verdicts ≡ length states
-  judged_each = ap (length {A = Bool}) r.judged ∙ verdict_count s states t
+module _ {s states t : List ℕ} {n : ℕ} {start : List Bench} (r : QueriesRequire s states t n start) where
+  pub bench_each : length start ≡ length states
+  bench_each = sym (length-map start (λ b. b.need)) ∙ ap (length {A = ℕ}) r.needed ∙ need_count s states t
 
   pub in_room : {i : ℕ} → i < length states → i * n + n ≤ length t
   in_room {i} h =
@@ -236,33 +214,52 @@ module _ {s states t : List ℕ} {n : ℕ} {needs : List ℕ} {verdicts : List B
   sized_room : {i : ℕ} → i < length states → i * table_bytes s + table_bytes s ≤ length t
   sized_room {i} h = omega (arith, in_room h, ap (λ (m : ℕ). i * m + m) r.sized)
 
-  module _ {benches : List Bench} {u : List ℕ} {i : ℕ} (w : Going s states t grants benches u i) (h : i < length states) where
+  module _ {benches : List Bench} {u : List ℕ} {i : ℕ} (w : Going s states t (grants_in start) start benches u i) (h : i < length states) where
     pub room_now : i * n + n ≤ length u
     room_now = omega (arith, in_room h, w.length_same)
 
-    pub turn_short : {b : Bench} → b ≡ short_bench (of_bench needs i) (of_bench grants i) → of_bench grants i < of_bench needs i
-        → Going s states t grants (set benches i b) u (i + 1)
-    turn_short e less =
-        next_short s states t grants w h r.right.few (e ∙ ap (λ (m : ℕ). short_bench m (of_bench grants i)) (need_at h)) (sized_room h)
-        (omega (arith, need_at h))
+    -- what stands in the place of bench i
+    module _ {bench : Bench} (is : bench ≡ get_or benches i no_bench) where
+      before : bench ≡ get_or start i no_bench
+      before = is ∙ w.rest i (omega arith)
 
-    pub turn_idle : {b : Bench} → AllBytes t → b ≡ queried_bench 0 (of_bench grants i) (reported_query (Ok (record { verdict = get_or verdicts i false; visits = 0 })))
-        → of_bench needs i ≡ 0 → Going s states t grants (set benches i b) u (i + 1)
-    turn_idle bytes e none =
-        next_idle s states t grants w h r.right.few
-        (e ∙ ap (λ (v : Bool). queried_bench 0 (of_bench grants i) (reported_query (Ok (record { verdict = v; visits = 0 })))) (verdict_at h)) (sized_room h) need_none
-        (nothing_filled s (byte states i) (bench_table s t i) (part_bytes t bytes (i * table_bytes s) (table_bytes s))
-        (r.none_refused i h) need_none)
-      where
-        need_none : need_of s states t i ≡ 0
-        need_none = omega (arith, need_at h)
+      need_at : bench.need ≡ need_of s states t i
+      need_at =
+          ap (λ (b : Bench). b.need) before ∙ sym (get_or-map (λ b. b.need) start i no_bench) ∙ ap (λ (l : List ℕ). of_bench l i) r.needed
+          ∙ need_of_bench s states t i h
 
-    pub turn_queried : {b : Bench} {v : List ℕ} {q : Queried} → q ≡ queried_of s (byte states i) (slice u (i * n) n)
-        → b ≡ queried_bench (of_bench needs i) (of_bench grants i) (reported_query q) → of_bench needs i ≤ of_bench grants i
-        → v ≡ with_part u (i * n) n (table_queried s (byte states i) (slice u (i * n) n)) → Going s states t grants (set benches i b) v (i + 1)
-    turn_queried {b} {v} {q} a e most is =
-        next_queried s states t grants w h r.right.few (a ∙ ap (λ (m : ℕ). queried_of s (byte states i) (slice u (i * m) m)) r.sized)
-        (e ∙ ap (λ (m : ℕ). queried_bench m (of_bench grants i) (reported_query q)) (need_at h)) (sized_room h) (omega (arith, need_at h))
-        (queries_correct.judged s (byte states i) (bench_table s t i) (bench_queried s states t i) (table_queried s (byte states i) (bench_table s t i))
-        (refl, (refl, refl)) (r.none_refused i h)).length_kept
-        (is ∙ ap (λ (m : ℕ). with_part u (i * m) m (table_queried s (byte states i) (slice u (i * m) m))) r.sized)
+      grant_at : bench.grant ≡ of_bench (grants_in start) i
+      grant_at = ap (λ (b : Bench). b.grant) before ∙ sym (get_or-map (λ b. b.grant) start i no_bench)
+
+      verdict_at : bench.verdict ≡ (bench_report s states t i).verdict
+      verdict_at =
+          ap (λ (b : Bench). b.verdict) before ∙ sym (get_or-map (λ b. b.verdict) start i no_bench) ∙ ap (λ (l : List Bool). get_or l i false) r.judged
+          ∙ for_first (λ j. (bench_report s states t j).verdict) (length states) i false h
+
+      pub turn_short : {b : Bench} → b ≡ short_bench bench.need bench.grant → bench.grant < bench.need
+          → Going s states t (grants_in start) start (set benches i b) u (i + 1)
+      turn_short e less =
+          next_short s states t (grants_in start) start w h (e ∙ ap₂ short_bench need_at grant_at) (sized_room h) (omega (arith, need_at, grant_at))
+
+      pub turn_idle : {b : Bench} → AllBytes t → b ≡ queried_bench 0 bench.grant (reported_query (Ok (record { verdict = bench.verdict; visits = 0 })))
+          → bench.need ≡ 0 → Going s states t (grants_in start) start (set benches i b) u (i + 1)
+      turn_idle bytes e none =
+          next_idle s states t (grants_in start) start w h
+          (e ∙ ap₂ (λ (g : ℕ) (v : Bool). queried_bench 0 g (reported_query (Ok (record { verdict = v; visits = 0 })))) grant_at verdict_at)
+          (sized_room h) need_none
+          (nothing_filled s (byte states i) (bench_table s t i) (part_bytes t bytes (i * table_bytes s) (table_bytes s))
+          (r.none_refused i h) need_none)
+        where
+          need_none : need_of s states t i ≡ 0
+          need_none = omega (arith, need_at)
+
+      pub turn_queried : {b : Bench} {v : List ℕ} {q : Queried} → q ≡ queried_of s (byte states i) (slice u (i * n) n)
+          → b ≡ queried_bench bench.need bench.grant (reported_query q) → bench.need ≤ bench.grant
+          → v ≡ with_part u (i * n) n (table_queried s (byte states i) (slice u (i * n) n))
+          → Going s states t (grants_in start) start (set benches i b) v (i + 1)
+      turn_queried {b} {v} {q} a e most is =
+          next_queried s states t (grants_in start) start w h (a ∙ ap (λ (m : ℕ). queried_of s (byte states i) (slice u (i * m) m)) r.sized)
+          (e ∙ ap₂ (λ (m g : ℕ). queried_bench m g (reported_query q)) need_at grant_at) (sized_room h) (omega (arith, need_at, grant_at))
+          (queries_correct.judged s (byte states i) (bench_table s t i) (bench_queried s states t i) (table_queried s (byte states i) (bench_table s t i))
+          (refl, (refl, refl)) (r.none_refused i h)).length_kept
+          (is ∙ ap (λ (m : ℕ). with_part u (i * m) m (table_queried s (byte states i) (slice u (i * m) m))) r.sized)

@@ -3,8 +3,7 @@ use Prim.Native.Nat.{ℕ, ◌+◌, ◌-◌, ◌*◌, ◌<◌, ◌≤◌}
 use mathlib.Core.Path.{◌≡◌, ap, ap₂, ◌∙◌}
 use mathlib.Core.List.{List, ◌++◌}
 use native.Mathlib.Omega.{arith}
-use lib.ListN.{length, take, drop, replicate, length-take, length-replicate}
-use lib.Seq.{length-take-le}
+use lib.ListN.{length, take, drop, length-take}
 use native.Mathlib.Nat.{mul-le-mul}
 use borrow.Rule.Slice.PartMut.{put_mid, Post-is}
 use Rattle.sheet.specs.Bytes.{slice}
@@ -20,13 +19,6 @@ use Rattle.allowance.specs.Internal.Benches.{BenchesRequire}
 module _ (t : List ℕ) (at size : ℕ) where
   all_there : take (at + size - at) (drop at t) ≡ slice t at size
   all_there = let e : at + size - at ≡ size = omega arith in ap (λ (n : ℕ). take n (drop at t)) e
-
--- room for a copy
-pub room_of : {A : Type 0} (a : A) (n room : ℕ) → n ≤ room → length (take n (replicate room a)) ≡ n
-room_of a n room h = length-take-le n (replicate room a) (omega (arith, length-replicate room a))
-
-pub room_for : (n room : ℕ) → n ≤ room → length (take n (replicate {A = ℕ} room 0)) ≡ n
-room_for n room h = room_of {A = ℕ} 0 n room h
 
 -- a table is at most the largest, and the places of eight of them are small numbers
 module _ {s states : List ℕ} (right : BenchesRequire s states) {size : ℕ} (is : size ≡ table_bytes s) where

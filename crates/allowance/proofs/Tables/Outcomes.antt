@@ -31,8 +31,8 @@ use Rattle.allowance.specs.Granting.{is_refused, lowest_refused, answer_benches,
 use Rattle.allowance.specs.Granting.{reported_answer, answer_report_of}
 use Rattle.allowance.specs.GrantsCorrect.{WrongBenchCount, BenchGives, NoneRefusedBefore, LowestRefusal, TooShortFor}
 use Rattle.allowance.specs.Internal.Benches.{ReportsZeroBelow}
-use Rattle.allowance.specs.declared.Answer.{Answer}
-use Rattle.allowance.specs.declared.Answer.TheVariants.{Dealt, BenchCountWrong}
+use Rattle.allowance.specs.Granting.{Answer}
+use Rattle.allowance.specs.declared.GrantError.TheVariants.{BenchCountWrong}
 use Rattle.allowance.proofs.Tables.EndToEnd.{one_more_table}
 
 -- no bench has 44 of its own
@@ -55,7 +55,7 @@ below_44 TableByte = omega arith
 below_44 OutputShort = omega arith
 
 own_below_44 : (q : Queried) → (reported_query q).number < 44
-own_below_44 (Ok (record { verdict = v; visits = n })) = omega arith
+own_below_44 (Ok j) = omega arith
 own_below_44 (Err QueryWrongCount) = omega arith
 own_below_44 (Err (QueryRefused x)) = below_44 x
 
@@ -119,7 +119,7 @@ module _ (s states t : List ℕ) where
       (lowest_below (is_refused s states t) (length states) j (omega arith)))
 
   by_lowest : (WrongBenchCount states → ⊥) → (b : Bool) → eqb (lowest_refused s states t) (length states) ≡ b
-      → Answers (pick b Dealt (refusal_of (bench_queried s states t (lowest_refused s states t))))
+      → Answers (pick b (Ok tt) (refusal_of (bench_queried s states t (lowest_refused s states t))))
   by_lowest right true e =
       all_dealt right (not_refused_below (length states) (omega (arith, eqb-true (lowest_refused s states t) (length states) e)))
   by_lowest right false e =
@@ -141,7 +141,7 @@ module _ (s states t : List ℕ) where
   count_right_holds a b (inr h) = omega arith
 
   by_count : (a b : Bool) → eqb (length states) 0 ≡ a → leb (length states) most_benches ≡ b
-      → Answers (pick (not a && b) (answer_benches s states t) BenchCountWrong)
+      → Answers (pick (not a && b) (answer_benches s states t) (Err BenchCountWrong))
   by_count true b e f = wrong_count (inl (eqb-true (length states) 0 e))
   by_count false false e f = wrong_count (inr (leb-false (length states) most_benches f))
   by_count false true e f =

@@ -1,15 +1,7 @@
--- The sizes of the copies that tables are queried on, and a buffer with a part anew. Contracts of private functions cite them; no promise
--- of a public call does.
+-- A buffer with a part anew. Contracts of private functions cite it; no promise of a public call does.
 use Rattle.std.specs.Prelude.{ℕ, ◌+◌, List, ◌++◌, take, drop}
 use Rattle.sheet.specs.Bytes.{slice}
 use Rattle.judge.specs.Querying.{table_queried}
-
--- copies are made in three sizes, the third that of the largest table
-abbrev pub small_copy : ℕ
-small_copy = 2048
-
-abbrev pub middle_copy : ℕ
-middle_copy = 8192
 
 -- the buffer t with these bytes in place of the size bytes from a place on
 abbrev pub with_part : List ℕ → ℕ → ℕ → List ℕ → List ℕ

@@ -1,4 +1,5 @@
 -- Propose and commit, of every call.
+use Rattle.std.specs.Prelude.{Ok, Err}
 use Prim.Native.Nat.{ℕ}
 use mathlib.Core.Path.{◌≡◌, refl, sym, ap, subst, ◌∙◌}
 use mathlib.Core.List.{List}
@@ -11,9 +12,9 @@ use Rattle.branches.specs.Proposing.{proposal_of, proposed_of, reported_proposal
 use Rattle.branches.specs.Committing.{answer_commit, committed_of, output_after, reported_commit}
 use Rattle.branches.specs.BranchesCorrect.{Addable, ProposeAnswered, CommitAnswered, ProposedThenCommitted, BranchesCorrect}
 use Rattle.branches.specs.declared.Proposal.{Proposal}
-use Rattle.branches.specs.declared.Proposed.{Proposed}
-use Rattle.branches.specs.declared.Proposed.TheVariants.{Offered, BranchUnfit, Refused}
-use Rattle.branches.specs.declared.Committed.{Committed}
+use Rattle.branches.specs.Proposing.{Proposed}
+use Rattle.branches.specs.declared.ProposeError.TheVariants.{BranchUnfit, Refused}
+use Rattle.branches.specs.Committing.{Committed}
 use Rattle.branches.proofs.Tags.Known.{known_tags}
 use Rattle.branches.proofs.Plans.Sheets.{sheet_length_lem}
 use Rattle.branches.proofs.Statements.Outcomes.{Outcome, Stopped, outcome, stopped_unread, stopped_unfit, stopped_looping}
@@ -52,7 +53,7 @@ module _ (s : List ℕ) (t : LabelledTransition) where
           saved = λ h e l. absurd (z.not_none h);
         }
 
-    offered : Addable s t → ProposedThenCommitted (Offered (proposal_of s t)) q (length out) (next (Offered (proposal_of s t)))
+    offered : Addable s t → ProposedThenCommitted (Ok (proposal_of s t)) q (length out) (next (Ok (proposal_of s t)))
     offered a =
         let c = commit_answered s t q out (Outcome.taken a) in
         record {
@@ -65,9 +66,9 @@ module _ (s : List ℕ) (t : LabelledTransition) where
         }
 
     in_turn : {a : Proposed} → Outcome s t a → ProposedThenCommitted a q (length out) (next a)
-    in_turn (Outcome.unread x e) = refused (Refused x) (stopped_unread s t e) refl refl
-    in_turn (Outcome.unfit k u) = refused BranchUnfit (stopped_unfit s t u) refl refl
-    in_turn (Outcome.looping f l) = refused (Refused Loop) (stopped_looping s t l) refl refl
+    in_turn (Outcome.unread x e) = refused (Err (Refused x)) (stopped_unread s t e) refl refl
+    in_turn (Outcome.unfit k u) = refused (Err BranchUnfit) (stopped_unfit s t u) refl refl
+    in_turn (Outcome.looping f l) = refused (Err (Refused Loop)) (stopped_looping s t l) refl refl
     in_turn (Outcome.taken a) = offered a
 
     after_proposing : ProposedThenCommitted (proposed_of s t) q (length out) (committed_of s t q (length out))

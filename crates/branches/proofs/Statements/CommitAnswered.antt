@@ -1,4 +1,5 @@
 -- Every call of commit, by the cases of its sheet and branch, and of its proposal and output.
+use Rattle.std.specs.Prelude.{Ok, Err}
 use Prim.Native.Nat.{ℕ, ◌+◌, ◌<◌, ◌≤◌}
 use mathlib.Core.Path.{◌≡◌, refl, sym, ap, subst, ◌∙◌}
 use mathlib.Core.Bool.{Bool, true, false}
@@ -19,9 +20,9 @@ use Rattle.branches.specs.Proposing.{proposal_of}
 use Rattle.branches.specs.Committing.{same_proposal, answer_proposal, answer_commit, leaves, reported_commit}
 use Rattle.branches.specs.BranchesCorrect.{Addable, ProposalSays, NewSheet, CommitAnswered}
 use Rattle.branches.specs.declared.Proposal.{Proposal}
-use Rattle.branches.specs.declared.Proposed.{Proposed}
-use Rattle.branches.specs.declared.Committed.{Committed}
-use Rattle.branches.specs.declared.Committed.TheVariants.{Wrote, BranchUnfit, ProposalDiffers, Refused}
+use Rattle.branches.specs.Proposing.{Proposed}
+use Rattle.branches.specs.Committing.{Committed}
+use Rattle.branches.specs.declared.CommitError.TheVariants.{BranchUnfit, ProposalDiffers, Refused}
 use Rattle.branches.proofs.Plans.Sheets.{sheet_length_lem, new_sheet}
 use Rattle.branches.proofs.Statements.Outcomes.{Outcome, Later, Numbered, Stopped, stopped_unread, stopped_unfit, stopped_looping}
 use Rattle.branches.proofs.Statements.Outcomes.{in_order, forty, twelve, place_none}
@@ -90,9 +91,9 @@ module _ (s : List ℕ) (t : LabelledTransition) (q : Proposal) (out : List ℕ)
   -- ---- a branch that may be added
 
   module _ (a : Addable s t) where
-    other_proposal : q ≢ fresh → Answered ProposalDiffers
+    other_proposal : q ≢ fresh → Answered (Err ProposalDiffers)
     other_proposal d =
-        let c : Reported ProposalDiffers = Numbered.taken a Later.differing in
+        let c : Reported (Err ProposalDiffers) = Numbered.taken a Later.differing in
         record {
           in_order = in_order s t c;
           forty = forty s t c;
@@ -113,9 +114,9 @@ module _ (s : List ℕ) (t : LabelledTransition) (q : Proposal) (out : List ℕ)
     three_more = sheet_length_lem s t a.fitting.accepted
 
     module _ (e : q ≡ fresh) where
-      by_room : (b : Bool) → leb (length new) (length out) ≡ b → Answered (pick b (Wrote (length new)) (Refused OutputShort))
+      by_room : (b : Bool) → leb (length new) (length out) ≡ b → Answered (pick b (Ok (length new)) (Err (Refused OutputShort)))
       by_room false r =
-          let c : Reported (Refused OutputShort) = Numbered.taken a Later.short in
+          let c : Reported (Err (Refused OutputShort)) = Numbered.taken a Later.short in
           let over : length out < length s + 3 = omega (arith, leb-false (length new) (length out) r, three_more) in
           record {
             in_order = in_order s t c;
@@ -133,7 +134,7 @@ module _ (s : List ℕ) (t : LabelledTransition) (q : Proposal) (out : List ℕ)
             nothing_else = inl (λ h. omega arith, refl);
           }
       by_room true r =
-          let c : Reported (Wrote (length new)) = Numbered.taken a Later.none in
+          let c : Reported (Ok (length new)) = Numbered.taken a Later.none in
           let fits : length s + 3 ≤ length out = omega (arith, leb-true (length new) (length out) r, three_more) in
           let long : length new ≡ q.length = ap (λ (x : Proposal). x.length) (sym e) in
           let rest : List ℕ = drop (length new) out in
@@ -160,7 +161,7 @@ module _ (s : List ℕ) (t : LabelledTransition) (q : Proposal) (out : List ℕ)
     by_proposal false p = other_proposal (λ e. differ (same_proposal q fresh) (same_test q fresh e) p)
 
   pub commit_answered : {examined : Proposed} → Outcome s t examined → Answered (answer_commit examined q (length new) (length out))
-  commit_answered (Outcome.unread x e) = refusing (Refused x) refl (stopped_unread s t e) (Numbered.unread x e)
-  commit_answered (Outcome.unfit k u) = refusing BranchUnfit refl (stopped_unfit s t u) (Numbered.unfit k u)
-  commit_answered (Outcome.looping f l) = refusing (Refused Loop) refl (stopped_looping s t l) (Numbered.looping f l)
+  commit_answered (Outcome.unread x e) = refusing (Err (Refused x)) refl (stopped_unread s t e) (Numbered.unread x e)
+  commit_answered (Outcome.unfit k u) = refusing (Err BranchUnfit) refl (stopped_unfit s t u) (Numbered.unfit k u)
+  commit_answered (Outcome.looping f l) = refusing (Err (Refused Loop)) refl (stopped_looping s t l) (Numbered.looping f l)
   commit_answered (Outcome.taken a) = by_proposal a (same_proposal q fresh) refl

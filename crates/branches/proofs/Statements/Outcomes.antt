@@ -15,7 +15,7 @@ use Rattle.sheet.specs.TransitionSystem.{LabelledTransition}
 use Rattle.sheet.specs.WellFormed.{WellFormedPlan, WellFormedSheet}
 use Rattle.sheet.specs.declared.Refusal.{Refusal}
 use Rattle.sheet.specs.declared.Refusal.TheVariants.{Loop}
-use Rattle.std.specs.Prelude.{Err, Ok}
+use Rattle.std.specs.Prelude.{Ok, Err}
 use Rattle.sheet.specs.Refusals.{Check}
 use Rattle.sheet.proofs.Acceptance.Numbers.{low_refusal, refused_number}
 use Rattle.sheet.proofs.Acceptance.Order.{given_in_order}
@@ -25,8 +25,8 @@ use Rattle.graph.proofs.Looptest.LoopFree.{free_exactly_at, loop_reachable}
 use Rattle.branches.specs.Branches.{branch_fits, plan_with}
 use Rattle.branches.specs.Proposing.{proposal_of, free_with, answer_branch, answer_sheet, proposed_of}
 use Rattle.branches.specs.BranchesCorrect.{Unfit, Fitting, LoopWith, Addable}
-use Rattle.branches.specs.declared.Proposed.{Proposed}
-use Rattle.branches.specs.declared.Proposed.TheVariants.{Offered, BranchUnfit, Refused}
+use Rattle.branches.specs.Proposing.{Proposed}
+use Rattle.branches.specs.declared.ProposeError.TheVariants.{BranchUnfit, Refused}
 use Rattle.branches.proofs.Plans.Fitting.{Fits, unfit_exactly, not_unfit}
 use Rattle.branches.proofs.Plans.With.{states_same, with_kept}
 use Rattle.branches.proofs.Plans.Loops.{loop_exactly}
@@ -38,10 +38,10 @@ refusal_in (Err x) = x
 
 -- the cases of a sheet and a branch, with what propose answers in each
 pub data Outcome (s : List ℕ) (t : LabelledTransition) : Proposed → Type 0 where
-  unread : (x : Refusal) → sheet_check s ≡ Err x → Outcome s t (Refused x)
-  unfit : WellFormedSheet s → Unfit (plan_body s) t → Outcome s t BranchUnfit
-  looping : Fitting s t → LoopWith s t → Outcome s t (Refused Loop)
-  taken : Addable s t → Outcome s t (Offered (proposal_of s t))
+  unread : (x : Refusal) → sheet_check s ≡ Err x → Outcome s t (Err (Refused x))
+  unfit : WellFormedSheet s → Unfit (plan_body s) t → Outcome s t (Err BranchUnfit)
+  looping : Fitting s t → LoopWith s t → Outcome s t (Err (Refused Loop))
+  taken : Addable s t → Outcome s t (Ok (proposal_of s t))
 
 -- the numbers for a branch that may be added: none, and of commit alone 22 and 41
 pub data Later : ℕ → Type 0 where
@@ -111,7 +111,7 @@ module _ (s : List ℕ) (t : LabelledTransition) where
     start_below : 0 < state_count new
     start_below = omega (arith, states_same old t, kept.some_states)
 
-    by_loop : (b : Bool) → free_with s t ≡ b → Outcome s t (pick b (Offered (proposal_of s t)) (Refused Loop))
+    by_loop : (b : Bool) → free_with s t ≡ b → Outcome s t (pick b (Ok (proposal_of s t)) (Err (Refused Loop)))
     by_loop true e =
         taken (record {
           fitting = f;

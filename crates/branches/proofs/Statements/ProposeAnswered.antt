@@ -1,4 +1,5 @@
 -- Every call of propose, by the cases of its sheet and branch.
+use Rattle.std.specs.Prelude.{Ok, Err}
 use Prim.Native.Nat.{ℕ}
 use mathlib.Core.Path.{◌≡◌, refl}
 use mathlib.Core.List.{List}
@@ -7,8 +8,8 @@ use Rattle.sheet.specs.TransitionSystem.{LabelledTransition}
 use Rattle.sheet.specs.declared.Refusal.TheVariants.{Loop}
 use Rattle.branches.specs.Proposing.{proposal_of, no_proposal, reported_proposal}
 use Rattle.branches.specs.BranchesCorrect.{Addable, ProposalSays, ProposeAnswered}
-use Rattle.branches.specs.declared.Proposed.{Proposed}
-use Rattle.branches.specs.declared.Proposed.TheVariants.{Offered, BranchUnfit, Refused}
+use Rattle.branches.specs.Proposing.{Proposed}
+use Rattle.branches.specs.declared.ProposeError.TheVariants.{BranchUnfit, Refused}
 use Rattle.branches.proofs.Plans.Places.{place_within, before_place}
 use Rattle.branches.proofs.Plans.Fitting.{not_unfit, after_place_holds}
 use Rattle.branches.proofs.Plans.Sheets.{sheet_length_lem}
@@ -44,9 +45,9 @@ module _ (s : List ℕ) (t : LabelledTransition) where
         refused = λ h. q;
       }
 
-  offering : Addable s t → ProposeAnswered s t (Offered (proposal_of s t))
+  offering : Addable s t → ProposeAnswered s t (Ok (proposal_of s t))
   offering a =
-      let c : Reported (Offered (proposal_of s t)) = Numbered.taken a Later.none in
+      let c : Reported (Ok (proposal_of s t)) = Numbered.taken a Later.none in
       record {
         in_order = in_order s t c;
         forty = forty s t c;
@@ -58,7 +59,7 @@ module _ (s : List ℕ) (t : LabelledTransition) where
       }
 
   pub propose_answered : {answer : Proposed} → Outcome s t answer → ProposeAnswered s t answer
-  propose_answered (Outcome.unread x e) = refusing (Refused x) refl (stopped_unread s t e) (Numbered.unread x e)
-  propose_answered (Outcome.unfit k u) = refusing BranchUnfit refl (stopped_unfit s t u) (Numbered.unfit k u)
-  propose_answered (Outcome.looping f l) = refusing (Refused Loop) refl (stopped_looping s t l) (Numbered.looping f l)
+  propose_answered (Outcome.unread x e) = refusing (Err (Refused x)) refl (stopped_unread s t e) (Numbered.unread x e)
+  propose_answered (Outcome.unfit k u) = refusing (Err BranchUnfit) refl (stopped_unfit s t u) (Numbered.unfit k u)
+  propose_answered (Outcome.looping f l) = refusing (Err (Refused Loop)) refl (stopped_looping s t l) (Numbered.looping f l)
   propose_answered (Outcome.taken a) = offering a

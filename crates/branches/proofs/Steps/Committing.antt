@@ -1,29 +1,31 @@
 -- What the steps of commit show.
+use Rattle.std.specs.Prelude.{Ok, Err}
 use Prim.Native.Nat.{ℕ, ◌+◌, ◌<◌, ◌≤◌}
 use mathlib.Core.Path.{◌≡◌, refl, sym, ap, ◌∙◌}
-use mathlib.Core.Bool.{true, false}
+use mathlib.Core.Bool.{Bool, true, false, not, ◌&&◌}
 use mathlib.Core.List.{List, ◌++◌, append_assoc}
 use native.Mathlib.Omega.{arith}
 use lib.ListN.{length, take, drop}
 use lib.Seq.{length-take-le}
-use borrow.Author.Tests.{le-leb, lt-leb}
+use lib.Dec.{eqb}
+use borrow.Author.Tests.{le-leb, lt-leb, not-true}
 use Rattle.text.specs.Placing.{place_after, buffer_after}
+use Rattle.text.proofs.Placing.{Placed}
 use Rattle.sheet.specs.Contents.{plan_body, actions_body, rule_body}
 use Rattle.sheet.specs.Writing.{head, sheet_length}
 use Rattle.sheet.specs.Writing as sheet
-use Rattle.sheet.specs.declared.Refusal.{Refusal}
 use Rattle.sheet.specs.declared.Refusal.TheVariants.{OutputShort}
 use Rattle.sheet.specs.declared.Transition.{Transition}
 use Rattle.sheet.proofs.Acceptance.Sheet.{accepted_iff, body_lengths}
 use Rattle.sheet.proofs.Roundtrip.RoundTrip.{written_length}
 use Rattle.branches.specs.Branches.{labelled, plan_with}
 use Rattle.branches.specs.Proposing.{proposed_of}
-use Rattle.branches.specs.Committing.{same_proposal, answer_proposal, committed_of, leaves, output_after, reported_commit, Commits}
+use Rattle.branches.specs.Committing.{same_proposal, stopped_by, answer_proposal, committed_of, leaves, output_after, reported_commit, Commits}
 use Rattle.branches.specs.declared.Proposal.{Proposal}
-use Rattle.branches.specs.declared.Proposed.{Proposed}
-use Rattle.branches.specs.declared.Proposed.TheVariants as Fresh
-use Rattle.branches.specs.declared.Committed.{Committed}
-use Rattle.branches.specs.declared.Committed.TheVariants.{Wrote, BranchUnfit, ProposalDiffers, Refused}
+use Rattle.branches.specs.Proposing.{Proposed}
+use Rattle.branches.specs.declared.ProposeError.{ProposeError}
+use Rattle.branches.specs.Committing.{Committed}
+use Rattle.branches.specs.declared.CommitError.TheVariants.{ProposalDiffers, Refused}
 use Rattle.branches.specs.Internal.Examining.{longest_plan, Ready}
 use Rattle.branches.specs.Internal.Writing.{sheet_by, WritableWith, WritesWith}
 use Rattle.branches.proofs.Steps.Inserting.{four_put}
@@ -34,13 +36,13 @@ module _ (s p : List ℕ) {actions rule : List ℕ} (out : List ℕ) (d : action
   size_is : sheet_length p actions rule ≡ length (sheet_by s p)
   size_is = (λ i. sheet_length p (d i) (e i)) ∙ sym (written_length p (actions_body s) (rule_body s))
 
-  pub no_room : length out < sheet_length p actions rule → WritesWith s p out (Refused OutputShort) out
+  pub no_room : length out < sheet_length p actions rule → WritesWith s p out (Err (Refused OutputShort)) out
   no_room h = (rw (lt-leb (length (sheet_by s p)) (length out) (omega (arith, size_is))) refl, refl)
 
   pub put_whole : sheet_length p actions rule ≤ length out → {start : List ℕ} → start ≡ head (length p) (length actions) (length rule)
-      → {a b c n : ℕ} {v w x y : List ℕ} → (a ≡ place_after start 0 out) × (v ≡ buffer_after start 0 out)
+      → {a b c n : ℕ} {v w x y : List ℕ} → Placed 0 out start a v
       → (b ≡ place_after p a v) × (w ≡ buffer_after p a v) → (c ≡ place_after actions b w) × (x ≡ buffer_after actions b w)
-      → (n ≡ place_after rule c x) × (y ≡ buffer_after rule c x) → WritesWith s p out (Wrote n) y
+      → (n ≡ place_after rule c x) × (y ≡ buffer_after rule c x) → WritesWith s p out (Ok n) y
   unfolding sheet.sheet_of
   put_whole h {start} f one two three four =
       let fits : length (sheet_by s p) ≤ length out = omega (arith, size_is) in
@@ -49,7 +51,7 @@ module _ (s p : List ℕ) {actions rule : List ℕ} (out : List ℕ) (d : action
       ∙ (λ i. f i ++ (p ++ (actions ++ rule))) ∙ (λ i. head (length p) (length (d i)) (length (e i)) ++ (p ++ (d i ++ e i))) in
       let put = four_put (sheet_by s p) out start p actions rule all fits one two three four in
       let left = put.1 ∙ ap (λ (n : ℕ). sheet_by s p ++ drop n out) (sym put.0) in
-      (rw (le-leb (length (sheet_by s p)) (length out) fits) (ap Wrote put.0), left)
+      (rw (le-leb (length (sheet_by s p)) (length out) fits) (ap Ok put.0), left)
 
 -- the plan with the branch in the buffer
 module _ (s : List ℕ) (t : Transition) (buffer : List ℕ) (ready : Ready s (labelled t) buffer) {p : List ℕ} (is : p ≡ plan_body s) where
@@ -72,6 +74,21 @@ module _ (s : List ℕ) (t : Transition) (buffer : List ℕ) (ready : Ready s (l
           rule_short = omega (arith, b.rule_most);
         }
 
+-- the test of two proposals, as the code makes it
+pub differing : (q fresh : Proposal)
+    → not (eqb q.insertion fresh.insertion && (eqb q.length fresh.length && eqb q.tag fresh.tag)) ≡ true → same_proposal q fresh ≡ false
+unfolding same_proposal
+differing q fresh e = not-true _ e
+
+pub same : (q fresh : Proposal)
+    → not (eqb q.insertion fresh.insertion && (eqb q.length fresh.length && eqb q.tag fresh.tag)) ≡ false → same_proposal q fresh ≡ true
+unfolding same_proposal
+same q fresh e = go _ e
+  where
+    go : (b : Bool) → not b ≡ false → b ≡ true
+    go true e = refl
+    go false e = sym e
+
 module _ (s : List ℕ) (t : Transition) (q : Proposal) (out : List ℕ) where
   answers : (r : Committed) (out' : List ℕ) → r ≡ committed_of s (labelled t) q (length out) → out' ≡ output_after s (labelled t) q out
       → Commits s t q out r out'
@@ -79,18 +96,14 @@ module _ (s : List ℕ) (t : Transition) (q : Proposal) (out : List ℕ) where
 
   -- what the examination found
   module _ {found : Proposed} (answer : found ≡ proposed_of s (labelled t)) where
-    pub unfit : found ≡ Fresh.BranchUnfit → Commits s t q out BranchUnfit out
+    pub refused : (x : ProposeError) → found ≡ Err x → Commits s t q out (Err (stopped_by x)) out
     unfolding committed_of output_after
-    unfit e = answers BranchUnfit out (rw (sym answer, e) refl) (rw (sym answer, e) refl)
+    refused x e = answers (Err (stopped_by x)) out (rw (sym answer, e) refl) (rw (sym answer, e) refl)
 
-    pub refused : (x : Refusal) → found ≡ Fresh.Refused x → Commits s t q out (Refused x) out
-    unfolding committed_of output_after
-    refused x e = answers (Refused x) out (rw (sym answer, e) refl) (rw (sym answer, e) refl)
-
-    module _ (fresh : Proposal) (e : found ≡ Fresh.Offered fresh) where
-      pub differs : same_proposal q fresh ≡ false → Commits s t q out ProposalDiffers out
+    module _ (fresh : Proposal) (e : found ≡ Ok fresh) where
+      pub differs : same_proposal q fresh ≡ false → Commits s t q out (Err ProposalDiffers) out
       unfolding committed_of output_after
-      differs d = answers ProposalDiffers out (rw (sym answer, e, d) refl) (rw (sym answer, e, d) refl)
+      differs d = answers (Err ProposalDiffers) out (rw (sym answer, e, d) refl) (rw (sym answer, e, d) refl)
 
       pub wrote : same_proposal q fresh ≡ true → {p : List ℕ} → p ≡ plan_with (plan_body s) (labelled t)
           → {r : Committed} {out' : List ℕ} → WritesWith s p out r out' → Commits s t q out r out'

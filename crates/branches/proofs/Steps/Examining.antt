@@ -14,7 +14,7 @@ use Rattle.sheet.specs.TransitionSystem.{LabelledTransition}
 use Rattle.sheet.specs.WellFormed.{WellFormedSheet, WellFormedPlan}
 use Rattle.sheet.specs.declared.Refusal.{Refusal}
 use Rattle.sheet.specs.declared.Refusal.TheVariants.{Loop}
-use Rattle.std.specs.Prelude.{Err, Ok}
+use Rattle.std.specs.Prelude.{Ok, Err}
 use Rattle.sheet.proofs.Acceptance.Sheet.{accepted_iff}
 use Rattle.sheet.proofs.Limits.Longest.{lengths}
 use Rattle.graph.specs.LoopTest.{loop_free}
@@ -22,8 +22,8 @@ use Rattle.branches.specs.Tags.{tag_of}
 use Rattle.branches.specs.Branches.{branch_fits, insertion_place, plan_with_at, plan_with}
 use Rattle.branches.specs.Proposing.{proposal_of, proposed_of}
 use Rattle.branches.specs.declared.Proposal.{Proposal}
-use Rattle.branches.specs.declared.Proposed.{Proposed}
-use Rattle.branches.specs.declared.Proposed.TheVariants.{Offered, BranchUnfit, Refused}
+use Rattle.branches.specs.Proposing.{Proposed}
+use Rattle.branches.specs.declared.ProposeError.TheVariants.{BranchUnfit, Refused}
 use Rattle.branches.specs.Internal.Inserting.{Inserting}
 use Rattle.branches.specs.Internal.Examining.{longest_plan, Looking, looked_of, Examined}
 use Rattle.branches.proofs.Plans.Places.{place_within}
@@ -34,12 +34,12 @@ use Rattle.branches.proofs.Plans.Sheets.{sheet_length_lem}
 -- ---- the answer where the plan takes the branch
 
 module _ (s : List ℕ) (place : ℕ) (new : List ℕ) where
-  pub looping : loop_free new 0 ≡ false → Refused Loop ≡ looked_of s place new
+  pub looping : loop_free new 0 ≡ false → Err (Refused Loop) ≡ looked_of s place new
   looping e = rw e refl
 
   pub offered : loop_free new 0 ≡ true → {tag : ℕ} → tag ≡ tag_of s
-      → Offered (record { insertion = place; length = length s + 3; tag = tag }) ≡ looked_of s place new
-  offered e d = rw e (λ i. Offered (record { insertion = place; length = length s + 3; tag = d i }))
+      → Ok (record { insertion = place; length = length s + 3; tag = tag }) ≡ looked_of s place new
+  offered e d = rw e (λ i. Ok (record { insertion = place; length = length s + 3; tag = d i }))
 
 -- ---- an accepted sheet
 
@@ -50,11 +50,11 @@ module _ (s : List ℕ) (t : LabelledTransition) (passed : sheet_check s ≡ Ok 
   pub plan_kept : WellFormedPlan (plan_body s)
   plan_kept = accepted.bodies_kept.plan_kept
 
-  pub examined_unfit : branch_fits (plan_body s) t ≡ false → (buffer : List ℕ) → Examined s t BranchUnfit buffer
+  pub examined_unfit : branch_fits (plan_body s) t ≡ false → (buffer : List ℕ) → Examined s t (Err BranchUnfit) buffer
   unfolding proposed_of
   examined_unfit e buffer = record { answer = rw (passed, e) refl; ready = λ q d. absurd (distinct q d) }
     where
-      distinct : (q : Proposal) → BranchUnfit ≡ Offered q → ⊥
+      distinct : (q : Proposal) → (Err BranchUnfit) ≡ Ok q → ⊥
       distinct q d = let z : ◌≡◌ {A = ℕ} 0 1 = cc in omega arith
 
   module _ (e : branch_fits (plan_body s) t ≡ true) where
@@ -107,13 +107,13 @@ module _ (s : List ℕ) (t : LabelledTransition) (passed : sheet_check s ≡ Ok 
 
             answer : r ≡ proposed_of s t
             answer =
-                d ∙ (λ i. pick (loop_free (there i) 0) (Offered (proposal i)) (Refused Loop))
+                d ∙ (λ i. pick (loop_free (there i) 0) (Ok (proposal i)) (Err (Refused Loop)))
                 ∙ rw (passed, e) refl
 
 pub unread : (s : List ℕ) (t : LabelledTransition) (x : Refusal) → sheet_check s ≡ Err x → (buffer : List ℕ)
-    → Examined s t (Refused x) buffer
+    → Examined s t (Err (Refused x)) buffer
 unfolding proposed_of
 unread s t x e buffer = record { answer = rw e refl; ready = λ q d. absurd (distinct q d) }
   where
-    distinct : (q : Proposal) → Refused x ≡ Offered q → ⊥
+    distinct : (q : Proposal) → Err (Refused x) ≡ Ok q → ⊥
     distinct q d = let z : ◌≡◌ {A = ℕ} 0 1 = cc in omega arith

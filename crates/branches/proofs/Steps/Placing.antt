@@ -6,12 +6,11 @@ use mathlib.Core.List.{List}
 use native.Mathlib.Omega.{arith}
 use native.Mathlib.Decide.{dec_lt}
 use lib.Dec.{ltb}
-use borrow.Author.Tests.{lt-ltb, le-ltb}
-use Rattle.sheet.specs.Plan.{state_count, action_count, transition_count}
+use Rattle.sheet.specs.Plan.{transition_count}
 use Rattle.sheet.specs.TransitionSystem.{LabelledTransition, transition_of, precedes}
 use Rattle.sheet.specs.WellFormed.{WellFormedPlan}
 use Rattle.sheet.proofs.TransitionOrder.{precedes_transitive}
-use Rattle.branches.specs.Branches.{branch_in_range, same_transition, present, branch_fits, insertion_place}
+use Rattle.branches.specs.Branches.{branch_in_range, present, branch_fits, insertion_place}
 use Rattle.branches.specs.Internal.Placing.{stands_at}
 use Rattle.branches.proofs.Plans.Places.{rise_far, place_is}
 use Rattle.branches.proofs.Plans.Fitting.{present_at_place}
@@ -24,10 +23,6 @@ pub record Searching (p : List ℕ) (t : LabelledTransition) (low high : ℕ) : 
   pub above : high < transition_count p → precedes (transition_of p high) t ≡ false
 
 module _ (p : List ℕ) (t : LabelledTransition) where
-  pub search_start : (high : ℕ) → high ≡ transition_count p → Searching p t 0 high
-  search_start high e =
-      record { ordered = omega arith; within = omega arith; below = λ j h. absurd (omega arith); above = λ h. absurd (omega arith) }
-
   pub search_low : WellFormedPlan p → {low high : ℕ} → Searching p t low high → (middle : ℕ) → middle < high
       → precedes (transition_of p middle) t ≡ true → Searching p t (middle + 1) high
   search_low k s middle h e =
@@ -44,33 +39,12 @@ module _ (p : List ℕ) (t : LabelledTransition) where
                 subst (λ (i : ℕ). precedes (transition_of p i) t ≡ true) same e
           ]
 
-  pub search_high : {low high : ℕ} → Searching p t low high → (middle : ℕ) → low ≤ middle → middle < high
-      → precedes (transition_of p middle) t ≡ false → Searching p t low middle
-  search_high s middle l h e =
-      record { ordered = l; within = omega (arith, s.within); below = s.below; above = λ b. e }
-
   pub search_end : {low high : ℕ} → Searching p t low high → high ≤ low → (low ≡ insertion_place p t) × (low ≤ transition_count p)
   search_end {low} {high} s h =
       let same : high ≡ low = omega (arith, s.ordered) in
       let within : low ≤ transition_count p = omega (arith, s.within) in
       let above = subst (λ (i : ℕ). i < transition_count p → precedes (transition_of p i) t ≡ false) same s.above in
       (place_is p t low within s.below above, within)
-
-  pub origin_over : state_count p ≤ t.origin → false ≡ branch_in_range p t
-  origin_over h = rw (le-ltb t.origin (state_count p) h) refl
-
-  module _ (o : t.origin < state_count p) where
-    pub action_over : action_count p ≤ t.action → false ≡ branch_in_range p t
-    action_over h = rw (lt-ltb t.origin (state_count p) o, le-ltb t.action (action_count p) h) refl
-
-    pub range_by_target : t.action < action_count p → ltb t.target (state_count p) ≡ branch_in_range p t
-    range_by_target h = rw (lt-ltb t.origin (state_count p) o, lt-ltb t.action (action_count p) h) refl
-
-  pub stands_by : (place : ℕ) → place < transition_count p → same_transition (transition_of p place) t ≡ stands_at p t place
-  stands_by place h = rw (lt-ltb place (transition_count p) h) refl
-
-  pub stands_past : (place : ℕ) → transition_count p ≤ place → false ≡ stands_at p t place
-  stands_past place h = rw (le-ltb place (transition_count p) h) refl
 
   pub not_in_range : branch_in_range p t ≡ false → false ≡ branch_fits p t
   unfolding branch_fits

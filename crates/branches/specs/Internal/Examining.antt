@@ -1,5 +1,5 @@
 -- What the examination of a branch goes through. Contracts of private functions cite it; no promise of a public call does.
-use Rattle.std.specs.Prelude.{ℕ, ◌+◌, ◌≤◌, ◌≡◌, true, List, length, take, Ok}
+use Rattle.std.specs.Prelude.{ℕ, ◌+◌, ◌≤◌, ◌≡◌, true, List, length, take, Ok, Err}
 use Rattle.sheet.specs.Bytes.{pick}
 use Rattle.sheet.specs.Contents.{plan_body}
 use Rattle.sheet.specs.Reading.{sheet_check}
@@ -11,8 +11,8 @@ use Rattle.branches.specs.Tags.{tag_of}
 use Rattle.branches.specs.Branches.{branch_fits, plan_with}
 use Rattle.branches.specs.Proposing.{proposed_of}
 use Rattle.branches.specs.declared.Proposal.{Proposal}
-use Rattle.branches.specs.declared.Proposed.{Proposed}
-use Rattle.branches.specs.declared.Proposed.TheVariants.{Offered, Refused}
+use Rattle.branches.specs.Proposing.{Proposed}
+use Rattle.branches.specs.declared.ProposeError.TheVariants.{Refused}
 
 -- the longest plan: 4 bytes and 2,048 transitions of three
 abbrev pub longest_plan : ℕ
@@ -26,7 +26,7 @@ pub record Looking (s : List ℕ) (place : ℕ) (new : List ℕ) : Type 0 where
 
 -- the answer where the plan takes the branch
 abbrev pub looked_of : List ℕ → ℕ → List ℕ → Proposed
-looked_of s place new = pick (loop_free new 0) (Offered (record { insertion = place; length = length s + 3; tag = tag_of s })) (Refused Loop)
+looked_of s place new = pick (loop_free new 0) (Ok (record { insertion = place; length = length s + 3; tag = tag_of s })) (Err (Refused Loop))
 
 -- what is known after an offer: the sheet is accepted, its plan takes the branch, and the plan with it stands in the buffer
 pub record Ready (s : List ℕ) (t : LabelledTransition) (buffer : List ℕ) : Type 0 where
@@ -37,4 +37,4 @@ pub record Ready (s : List ℕ) (t : LabelledTransition) (buffer : List ℕ) : T
 -- the examination of the sheet s and the transition t answered r and left a buffer
 pub record Examined (s : List ℕ) (t : LabelledTransition) (r : Proposed) (buffer : List ℕ) : Type 0 where
   pub answer : r ≡ proposed_of s t
-  pub ready : (q : Proposal) → r ≡ Offered q → Ready s t buffer
+  pub ready : (q : Proposal) → r ≡ Ok q → Ready s t buffer

@@ -3,7 +3,7 @@ use Rattle.std.specs.Prelude.{ℕ, ◌<◌, ◌≡◌, true, List, length}
 use Rattle.sheet.specs.Contents.{actions_body, rule_body}
 use Rattle.sheet.specs.Writing.{sheet_of}
 use Rattle.branches.specs.Committing.{answer_proposal, leaves}
-use Rattle.branches.specs.declared.Committed.{Committed}
+use Rattle.branches.specs.Committing.{Committed}
 
 -- the sheet s with the plan p in place of its own
 abbrev pub sheet_by : List ℕ → List ℕ → List ℕ

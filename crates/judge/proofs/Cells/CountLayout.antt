@@ -8,6 +8,27 @@ use Rattle.judge.specs.Cells.{cell_bytes, table_bytes, cells_in, count_bytes}
 use Rattle.judge.specs.StoredCount.{in_four_bytes, stored_count, filled_cells, table_with, CountLayout}
 use Rattle.judge.specs.Querying.{bytes_right}
 
+-- what the first bytes of a buffer tell, told by them alone
+module _ (size : ℕ) (t : List ℕ) where
+  taken_byte : (i : ℕ) → i < size → byte_at (take size t) i ≡ byte_at t i
+  taken_byte i h = get_or-take size t i 0 h
+
+  pub taken_filled : count size (λ i. filled (byte_at t i)) ≡ count size (λ i. filled (byte_at (take size t) i))
+  taken_filled = count_cong size _ _ (λ i h. ap filled (sym (taken_byte i h)))
+
+  pub taken_right : bytes_right size (take size t) ≡ bytes_right size t
+  unfolding bytes_right
+  taken_right = go (bytes_right size (take size t)) (bytes_right size t) refl refl
+    where
+      over : List ℕ → ℕ → Bool
+      over u i = ltb 2 (byte_at u i)
+
+      go : (a b : Bool) → bytes_right size (take size t) ≡ a → bytes_right size t ≡ b → bytes_right size (take size t) ≡ bytes_right size t
+      go true true p q = p ∙ sym q
+      go true false p q = p ∙ sym ((none_found (over t) size).1 (λ i h. ap (ltb 2) (sym (taken_byte i h)) ∙ (none_found (over (take size t)) size).0 p i h))
+      go false true p q = (none_found (over (take size t)) size).1 (λ i h. ap (ltb 2) (taken_byte i h) ∙ (none_found (over t) size).0 q i h) ∙ sym q
+      go false false p q = p ∙ sym q
+
 module _ (s t : List ℕ) where
   pub cells_byte : (i : ℕ) → i < cell_bytes s → byte_at (cells_in s t) i ≡ byte_at t i
   cells_byte i h = get_or-take (cell_bytes s) t i 0 h
@@ -22,20 +43,10 @@ module _ (s t : List ℕ) where
 
   -- what is told by the cells alone
   pub filled_cells_lem : filled_cells s t ≡ count (cell_bytes s) (λ i. filled (byte_at (cells_in s t) i))
-  filled_cells_lem = count_cong (cell_bytes s) _ _ (λ i h. ap filled (sym (cells_byte i h)))
+  filled_cells_lem = taken_filled (cell_bytes s) t
 
   pub bytes_cells : bytes_right (cell_bytes s) (cells_in s t) ≡ bytes_right (cell_bytes s) t
-  unfolding bytes_right
-  bytes_cells = go (bytes_right (cell_bytes s) (cells_in s t)) (bytes_right (cell_bytes s) t) refl refl
-    where
-      over : List ℕ → ℕ → Bool
-      over u i = ltb 2 (byte_at u i)
-
-      go : (a b : Bool) → bytes_right (cell_bytes s) (cells_in s t) ≡ a → bytes_right (cell_bytes s) t ≡ b → bytes_right (cell_bytes s) (cells_in s t) ≡ bytes_right (cell_bytes s) t
-      go true true p q = p ∙ sym q
-      go true false p q = p ∙ sym ((none_found (over t) (cell_bytes s)).1 (λ i h. ap (ltb 2) (sym (cells_byte i h)) ∙ (none_found (over (cells_in s t)) (cell_bytes s)).0 p i h))
-      go false true p q = (none_found (over (cells_in s t)) (cell_bytes s)).1 (λ i h. ap (ltb 2) (cells_byte i h) ∙ (none_found (over t) (cell_bytes s)).0 q i h) ∙ sym q
-      go false false p q = p ∙ sym q
+  bytes_cells = taken_right (cell_bytes s) t
 
 -- the number that its four bytes hold
 abbrev pub from_bytes : ℕ → ℕ

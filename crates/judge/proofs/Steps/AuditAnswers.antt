@@ -1,5 +1,7 @@
 -- An audit's answer from what its steps tell: the blocks of the states, the refusals, and yes or no.
-use Rattle.std.proofs.Common.{◌≡◌, ℕ, ◌+◌, ◌*◌, ◌/◌, ◌%◌, ◌<◌, ◌≤◌, Bool, true, false, ◌≢◌, ◌↔◌, List, length, get_or, take, replicate, sym, refl, ap, ◌∙◌, ap₂, mod-lt, mul_assoc, div-lt_iff_lt-mul, add-mul, mul-le-mul, div-add-mod', arith, length-take-le, get_or-take, eq-eqb, ne_eqb}
+use Rattle.std.proofs.Math.Nat.{lt_of_mul-lt-mul_right, mul-lt-mul_of_pos_right}
+use Rattle.std.proofs.lemmas.Nat.{mul-lt}
+use Rattle.std.proofs.Common.{◌≡◌, ℕ, ◌+◌, ◌*◌, ◌/◌, ◌%◌, ◌<◌, ◌≤◌, Bool, true, false, ◌≢◌, ◌↔◌, List, length, get_or, take, replicate, sym, refl, ap, ◌∙◌, mod-lt, mul_assoc, div-lt_iff_lt-mul, add-mul, mul-le-mul, div-add-mod', arith, length-take-le, get_or-take, eq-eqb, ne_eqb}
 use native.Mathlib.Decide.{ℕ_discrete}
 use lib.Arith.{digits_lt}
 use Rattle.sheet.specs.Contents.{plan_body, rule_body}
@@ -8,7 +10,7 @@ use Rattle.sheet.specs.Rule.{node_count}
 use Rattle.sheet.specs.Reading.{sheet_check}
 use Rattle.sheet.specs.declared.Refusal.{Refusal}
 use Rattle.sheet.specs.declared.Refusal.TheVariants.{Loop as LoopRefusal, TableShort, TableByte}
-use Rattle.std.specs.Prelude.{Err, Ok}
+use Rattle.std.specs.Prelude.{Ok, Err, Result}
 use Rattle.sheet.proofs.Acceptance.Parts.{sheet_kept, few_states, few_nodes, rule_kept}
 use Rattle.sheet.proofs.Checks.Bools.{differ, fails}
 use Rattle.sheet.proofs.Checks.Checks.{with_report}
@@ -23,17 +25,29 @@ use Rattle.judge.specs.StoredCount.{stored_count, filled_cells}
 use Rattle.judge.specs.Querying.{bytes_right, count_right}
 use Rattle.judge.specs.Auditing.{every_byte, byte_loop_free, audit_check, audit_right, audited_of, answer_audited, reported_audit, Audits}
 use Rattle.judge.specs.AuditCorrect.{FilledCell}
-use Rattle.std.specs.Prelude.{Ok, Err}
 use Rattle.judge.specs.Internal.Preparing.{StatesAsked, StatesTold, looped, told}
-use Rattle.judge.specs.Internal.Auditing.{table_passes, ScannedRequires, StatesScanned, over, counted, AuditRequires, LongTableRequires}
-use Rattle.judge.specs.declared.Scanned.{Scanned}
-use Rattle.judge.specs.declared.Scanned.TheVariants.{ByteOver, Filled}
+use Rattle.judge.specs.Internal.Preparing.{RuleTold}
+use Rattle.judge.specs.Internal.Auditing.{table_passes, CellsRequires, ScannedRequires, StatesScanned, over, counted}
 use Rattle.judge.proofs.Audit.FilledCells.{every_filled}
 use Rattle.judge.proofs.Statements.CallNumbers.{clear_unread, clear_short, clear_fits}
 use Rattle.judge.proofs.Cells.CellLayout.{position_inside}
 use Rattle.judge.proofs.Steps.AuditCells.{all_cells}
-use Rattle.judge.proofs.Steps.DecideSteps.{size_small}
-use Rattle.judge.proofs.Steps.ScanSteps.{bytes_small, bytes_right_holds, over_apart, filled_same}
+use Rattle.judge.proofs.Steps.ScanSteps.{bytes_small, bytes_right_holds}
+
+-- an accepted sheet, with what is prepared of its rule, and a table that is long enough
+pub record LongTable (s : List ℕ) (index : Index) (t : List ℕ) (cells : ℕ) : Type 0 where
+  pub accepted : sheet_check s ≡ Ok tt
+  pub rule_told : RuleTold s index
+  pub cells_are : cells ≡ cell_bytes s
+  pub long : table_bytes s ≤ length t
+
+-- all prepared for each state with a filled cell, no byte over 2, and so many cells filled
+pub record AuditAsked (s : List ℕ) (index : Index) (t starts : List ℕ) (cells n : ℕ) : Type 0 where
+  pub cells_asked : CellsRequires s index t starts
+  pub cells_are : cells ≡ cell_bytes s
+  pub long : table_bytes s ≤ length t
+  pub small : (i : ℕ) → i < cell_bytes s → byte_at t i ≤ 2
+  pub filled_are : n ≡ filled_cells s t
 
 -- ---- refusals, and yes or no
 
@@ -85,7 +99,7 @@ module _ (s t : List ℕ) where
 
 -- ---- the last step
 
-module _ {s : List ℕ} {index : Index} {t starts : List ℕ} {cells n : ℕ} (q : AuditRequires s index t starts cells n) where
+module _ {s : List ℕ} {index : Index} {t starts : List ℕ} {cells n : ℕ} (q : AuditAsked s index t starts cells n) where
   all_free : (c : Cell) → FilledCell s t c → loop_free (plan_body s) c.state ≡ true
   all_free c f =
       elim (ℕ_discrete (get_or starts c.state 0) 0) [
@@ -107,7 +121,7 @@ module _ {s : List ℕ} {index : Index} {t starts : List ℕ} {cells n : ℕ} (q
 
 -- ---- the blocks of the states
 
-module _ {s : List ℕ} {index : Index} {t : List ℕ} {cells : ℕ} (q : LongTableRequires s index t cells) where
+module _ {s : List ℕ} {index : Index} {t : List ℕ} {cells : ℕ} (q : LongTable s index t cells) where
   abbrev S : ℕ
   S = state_count (plan_body s)
 
@@ -138,18 +152,22 @@ module _ {s : List ℕ} {index : Index} {t : List ℕ} {cells : ℕ} (q : LongTa
         omega (arith, add-mul (u * N) (j / M) M, mul_assoc u N M, div-add-mod' j M),
       )
 
-  module _ {states width : ℕ} (ss : states ≡ S) (ww : width ≡ N * M) where
-    pub scan_asked : {starts : List ℕ} → starts ≡ replicate 128 0 → ScannedRequires (take cells t) states width starts
+  module _ {width : ℕ} (ww : width ≡ N * M) where
+    blocks : cell_bytes s ≡ S * width
+    blocks = mul_assoc S N M ∙ ap (λ (k : ℕ). S * k) (sym ww)
+
+    some_bytes : 0 < width
+    some_bytes = omega (arith, ww, mul-lt 0 0 N M (rule_kept s q.accepted).some_nodes (omega arith))
+
+    pub scan_asked : {starts : List ℕ} → starts ≡ replicate 128 0 → ScannedRequires (take cells t) width starts
     scan_asked e = record {
+      states = S;
+      some_bytes = some_bytes;
       exact = taken_length ∙ blocks;
-      few_states = omega (arith, ss, few_states s q.accepted);
-      few_bytes = omega (arith, blocks, size_small s q.accepted);
+      few_states = few_states s q.accepted;
       sized = ap length e;
       none = λ u h. h (ap (λ (l : List ℕ). get_or l u 0) e ∙ colourless 128 u);
     }
-      where
-        blocks : cell_bytes s ≡ states * width
-        blocks = mul_assoc S N M ∙ sym (ap₂ ◌*◌ ss ww)
 
     -- what the pass over the blocks told: no byte over 2, the count, and that starts marks the states with filled cells
     pub record BlocksTold (starts : List ℕ) (n : ℕ) : Type 0 where
@@ -158,29 +176,31 @@ module _ {s : List ℕ} {index : Index} {t : List ℕ} {cells : ℕ} (q : LongTa
       pub marked : (u : ℕ) → StartsFrom starts u → (c : Cell) × FilledCell s t c × (c.state ≡ u)
       pub others : (c : Cell) → FilledCell s t c → StartsFrom starts c.state
 
-    module _ {r : Scanned} {starts : List ℕ} (w : StatesScanned (take cells t) states width r starts) where
-      pub blocks_over : r ≡ ByteOver → Audits s t (Err TableByte)
-      blocks_over e = go w
+    module _ {r : Result ℕ Refusal} {starts : List ℕ} (w : StatesScanned (take cells t) width r starts) where
+      pub blocks_over : {x : Refusal} → r ≡ Err x → Audits s t (Err x)
+      blocks_over {x} e = go w
         where
-          go : StatesScanned (take cells t) states width r starts → Audits s t (Err TableByte)
-          go (over _ i h g) =
+          go : StatesScanned (take cells t) width r starts → Audits s t (Err x)
+          go (over f i h g) =
               let l : i < cell_bytes s = omega (arith, taken_length) in
-              audit_over s t q.accepted q.long i l (omega (arith, taken_byte i l))
-          go (counted n f small k named found) = absurd (over_apart (sym e ∙ f))
+              let same : x ≡ TableByte = cc in
+              rw same (audit_over s t q.accepted q.long i l (omega (arith, taken_byte i l)))
+          go (counted n f small k named found) = absurd (cc)
 
-      pub blocks_told : {n : ℕ} → r ≡ Filled n → BlocksTold starts n
+      pub blocks_told : {n : ℕ} → r ≡ Ok n → BlocksTold starts n
       blocks_told {n} e = go w
         where
-          go : StatesScanned (take cells t) states width r starts → BlocksTold starts n
-          go (over f i h g) = absurd (over_apart (sym f ∙ e))
+          go : StatesScanned (take cells t) width r starts → BlocksTold starts n
+          go (over f i h g) = absurd (cc)
           go (counted k f small g named found) = record {
             small = λ i h. omega (arith, small i (omega (arith, taken_length)), taken_byte i h);
             counts =
-                filled_same (sym e ∙ f) ∙ (g ∙ (ap (λ (m : ℕ). count m (λ i. filled (byte_at (take cells t) i))) taken_length
+                let same : n ≡ k = cc in
+                same ∙ (g ∙ (ap (λ (m : ℕ). count m (λ i. filled (byte_at (take cells t) i))) taken_length
                 ∙ count_cong (cell_bytes s) (λ i. filled (byte_at (take cells t) i)) (λ i. filled (byte_at t i)) (λ i h. ap filled (taken_byte i h))));
             marked = λ u h.
                 let m = named u h in
-                let b = of_block u m.1.0 (omega (arith, m.0, ss)) (omega (arith, m.1.1, ww)) in
+                let b = of_block u m.1.0 (lt_of_mul-lt-mul_right width (omega (arith, m.0, taken_length, blocks))) (omega (arith, m.1.1, ww)) in
                 let c = cell (m.1.0 % M) (m.1.0 / M) u in
                 let place : position_of (rule_body s) c ≡ u * width + m.1.0 = b.1 ∙ ap (λ (x : ℕ). u * x + m.1.0) (sym ww) in (
                   c,
@@ -195,7 +215,7 @@ module _ {s : List ℕ} {index : Index} {t : List ℕ} {cells : ℕ} (q : LongTa
                 let i = f.in_table in
                 let place : c.state * width + (c.node * M + c.mark) ≡ position_of (rule_body s) c =
                 ap (λ (x : ℕ). c.state * x + (c.node * M + c.mark)) ww ∙ sym (in_block c i) in
-                found c.state (omega (arith, i.state_below, ss)) (
+                found c.state (omega (arith, mul-lt-mul_of_pos_right {m = c.state} {n = S} {k = width} i.state_below some_bytes, taken_length, blocks)) (
                   c.node * M + c.mark,
                   omega (arith, digits_lt i.node_below i.mark_below, ww),
                   ap filled (ap (byte_at (take cells t)) place ∙ taken_byte (position_of (rule_body s) c) (position_inside s c i)) ∙ f.is_filled,
@@ -217,7 +237,7 @@ module _ {s : List ℕ} {index : Index} {t : List ℕ} {cells : ℕ} (q : LongTa
           audit_looping s t q.accepted q.long b.small m.0 m.1 (ap (loop_free (plan_body s)) m.2 ∙ l)
       blocks_looped e (told f rule states) = absurd (differ _ f e)
 
-      pub blocks_free : {index' : Index} {free : Bool} → free ≡ true → StatesTold s starts index' free → AuditRequires s index' t starts cells n
+      pub blocks_free : {index' : Index} {free : Bool} → free ≡ true → StatesTold s starts index' free → AuditAsked s index' t starts cells n
       blocks_free e (looped f u h l) = absurd (differ _ e f)
       blocks_free e (told _ rule states) = record {
         cells_asked = record {

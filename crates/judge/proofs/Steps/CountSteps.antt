@@ -1,6 +1,5 @@
--- What the code of storing and of reading the count shows.
-use Rattle.std.proofs.Common.{◌≡◌, ℕ, suc, ◌+◌, ◌<◌, ◌≤◌, List, [], ◌∷◌, ◌++◌, length, take, drop, set, ap, ◌∙◌, append_assoc, arith, le-leb}
-use lib.Seq.{sets-eq}
+-- What the code of reading the count shows.
+use Rattle.std.proofs.Common.{◌≡◌, ℕ, ◌<◌, ◌≤◌, List, length, ap, le-leb}
 use borrow.Author.Tests.{lt-leb}
 use Rattle.sheet.specs.Reading.{sheet_check}
 use Rattle.sheet.specs.declared.Refusal.{Refusal}
@@ -12,16 +11,6 @@ use Rattle.judge.specs.Clearing.{clear_check}
 use Rattle.judge.specs.Counting.{counted_of, reported_count, ReadsCount}
 use Rattle.std.specs.Prelude.{Ok, Err}
 use Rattle.judge.specs.Counting.{Counted}
-
--- four bytes stored one after the other
-pub stores_four : (t : List ℕ) (at a b c d : ℕ) → at + 4 ≤ length t
-    → set (set (set (set t at a) (at + 1) b) (at + 2) c) (at + 3) d ≡ take at t ++ (a ∷ b ∷ c ∷ d ∷ drop (at + 4) t)
-stores_four t at a b c d h =
-    let one : at + 1 ≡ suc at = omega arith in
-    let two : at + 2 ≡ suc (suc at) = omega arith in
-    let three : at + 3 ≡ suc (suc (suc at)) = omega arith in
-    let stored : List ℕ = a ∷ b ∷ c ∷ d ∷ [] in
-    (λ i. set (set (set (set t at a) (one i) b) (two i) c) (three i) d) ∙ sets-eq stored t at h ∙ append_assoc (take at t) stored (drop (at + 4) t)
 
 module _ (s t : List ℕ) where
   answers : (r : Counted) → r ≡ counted_of s t → ReadsCount s t r

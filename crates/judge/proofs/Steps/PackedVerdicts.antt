@@ -1,13 +1,7 @@
 -- The arithmetic of a verdict packed with its visits, and of what a cell's byte says.
-use Rattle.std.proofs.Common.{◌≡◌, ℕ, ◌+◌, ◌*◌, ◌/◌, ◌%◌, true, false, eqb, sym, refl, ap, arith, eq-eqb, ne_eqb}
+use Rattle.std.proofs.Common.{◌≡◌, ℕ, ◌+◌, ◌*◌, ◌/◌, ◌%◌, true, false, eqb, refl, ap, arith}
 use Rattle.rows.specs.Tables.{byte_of}
-use Rattle.judge.specs.Internal.Packed.{verdict_in, Known, Added, OneVisitMore}
-
-pub known_true : (b : ℕ) → b ≡ 2 → Known b 1
-known_true b e = record { verdict_is = sym (eq-eqb b 2 e); visits_are = refl; small = omega arith }
-
-pub known_false : (b : ℕ) → (b ≡ 2 → ⊥) → Known b 0
-known_false b e = record { verdict_is = sym (ne_eqb b 2 e); visits_are = refl; small = omega arith }
+use Rattle.judge.specs.Internal.Packed.{verdict_in, Added, OneVisitMore}
 
 same_parity : (a b : ℕ) → a % 2 ≡ b % 2 → verdict_in a ≡ verdict_in b
 same_parity a b e = ap (λ (k : ℕ). eqb k 1) e

@@ -1,8 +1,7 @@
 -- What the code of a query shows: each answer is the one that the checks give.
-use Rattle.std.proofs.Common.{◌≡◌, ℕ, ◌+◌, ◌<◌, ◌≤◌, Bool, true, false, ◌≢◌, List, ◌++◌, length, take, drop, sym, refl, ap, ◌∙◌, ap₂, arith, length-take-le, drop-drop, le-ltb, lt-ltb, eq-eqb, ne_eqb, eqb-true, le-leb}
+use Rattle.std.proofs.Common.{◌≡◌, ℕ, ◌+◌, ◌<◌, ◌≤◌, Bool, true, false, List, ◌++◌, length, take, drop, sym, ap, ◌∙◌, ap₂, arith, length-take-le, drop-drop, le-ltb, lt-ltb, eqb-true, le-leb}
 use lib.Seq.{take-append_seam, drop-append-add}
 use borrow.Author.Tests.{lt-leb}
-use Rattle.sheet.specs.Bytes.{pick}
 use Rattle.sheet.proofs.Acceptance.Parts.{rule_kept}
 use Rattle.sheet.specs.Contents.{plan_body, rule_body}
 use Rattle.sheet.specs.Plan.{state_count}
@@ -10,7 +9,7 @@ use Rattle.sheet.specs.Reading.{sheet_check}
 use Rattle.sheet.specs.declared.Refusal.{Refusal}
 use Rattle.sheet.specs.declared.Refusal.TheVariants.{NoSuchState, Loop, TableShort, TableByte}
 use Rattle.std.specs.Prelude.{Err, Ok}
-use Rattle.rows.specs.Tables.{byte_at, filled, count, Result, out, verdict, visits, table}
+use Rattle.rows.specs.Tables.{byte_at, filled, Result, out, verdict, visits, table}
 use Rattle.judge.specs.declared.index.Index.{Index}
 use Rattle.judge.specs.Cells.{cell, written_rows, enough, position_of, cell_at, cell_bytes, table_bytes, cells_in, count_bytes}
 use Rattle.judge.specs.StoredCount.{in_four_bytes, stored_count, filled_cells, table_with}
@@ -19,18 +18,15 @@ use Rattle.judge.specs.Querying.{bytes_right, query_check, count_right, result_a
 use Rattle.judge.specs.Internal.Deciding.{DecideRequires, Decided}
 use Rattle.judge.specs.Internal.Packed.{verdict_in, visits_in}
 use Rattle.judge.specs.Internal.Index.{QueryRequires}
-use Rattle.judge.specs.Internal.Scanning.{scan_of}
-use Rattle.judge.specs.Internal.Judging.{TableRequires}
 use Rattle.std.specs.Prelude.{Ok, Err}
 use Rattle.judge.specs.Querying.{Queried}
 use Rattle.judge.specs.declared.QueryError.TheVariants.{WrongCount, Refused}
-use Rattle.judge.specs.declared.Scanned.{Scanned}
-use Rattle.judge.specs.declared.Scanned.TheVariants.{ByteOver, Filled}
+use Rattle.judge.specs.declared.QueryError.{QueryError}
 use Rattle.rows.proofs.Tables.Counting.{count_le}
 use Rattle.rows.proofs.Lists.Lists.{query_length}
-use Rattle.judge.proofs.Steps.ScanSteps.{over_apart, filled_same}
+use Rattle.judge.proofs.Steps.RightCount.{Taken, TurnedDown, short, over, miscounted}
 use Rattle.judge.proofs.Steps.DecideSteps.{size_small}
-use Rattle.judge.proofs.Cells.CountLayout.{cells_length, filled_cells_lem, bytes_cells}
+use Rattle.judge.proofs.Cells.CountLayout.{cells_length}
 
 module _ (s : List ℕ) (state : ℕ) (t : List ℕ) where
   -- the clauses of the contract
@@ -64,33 +60,6 @@ module _ (s : List ℕ) (state : ℕ) (t : List ℕ) where
 
 -- of a table that is long enough
 module _ (s t : List ℕ) (l : table_bytes s ≤ length t) where
-  -- the pass over the cells told this
-  module _ {cells : ℕ} (told : Scanned) (e : told ≡ scan_of (take cells t)) (size : cells ≡ cell_bytes s) where
-    told_by : told ≡ pick (bytes_right (cell_bytes s) t) (Filled (filled_cells s t)) ByteOver
-    unfolding scan_of
-    told_by =
-        e ∙ ap (λ (k : ℕ). scan_of (take k t)) size
-        ∙ ap (λ (k : ℕ). pick (bytes_right k (cells_in s t)) (Filled (count k (λ i. filled (byte_at (cells_in s t) i)))) ByteOver) (cells_length s t l)
-        ∙ ap₂ (λ (b : Bool) (n : ℕ). pick b (Filled n) ByteOver) (bytes_cells s t) (sym (filled_cells_lem s t))
-
-    pub told_over : told ≡ ByteOver → bytes_right (cell_bytes s) t ≡ false
-    told_over o = go (bytes_right (cell_bytes s) t) refl (sym o ∙ told_by)
-      where
-        go : (b : Bool) → bytes_right (cell_bytes s) t ≡ b → ByteOver ≡ pick b (Filled (filled_cells s t)) ByteOver → bytes_right (cell_bytes s) t ≡ false
-        go true r p = absurd (over_apart p)
-        go false r p = r
-
-    pub told_filled : {n : ℕ} → told ≡ Filled n → (bytes_right (cell_bytes s) t ≡ true) × (n ≡ filled_cells s t)
-    told_filled {n} o = go (bytes_right (cell_bytes s) t) refl (sym o ∙ told_by)
-      where
-        go : (b : Bool) → bytes_right (cell_bytes s) t ≡ b → Filled n ≡ pick b (Filled (filled_cells s t)) ByteOver → (bytes_right (cell_bytes s) t ≡ true) × (n ≡ filled_cells s t)
-        go true r p = (r, filled_same p)
-        go false r p = absurd (over_apart (sym p))
-
-  pub count_told : stored_count s t ≡ filled_cells s t → count_right s t ≡ true
-  unfolding count_right
-  count_told e = eq-eqb (stored_count s t) (filled_cells s t) e
-
   -- cells put in place of the table's, and then a count after them
   pub counted_after : {cells : ℕ} → cells ≡ cell_bytes s → (left u : List ℕ) (n : ℕ) → length left ≡ length (take cells t)
       → u ≡ take cells (left ++ drop cells t) ++ (in_four_bytes n ++ drop (cells + count_bytes) (left ++ drop cells t)) → u ≡ table_with s left n t
@@ -103,13 +72,13 @@ module _ (s t : List ℕ) (l : table_bytes s ≤ length t) where
 
 -- with all prepared
 module _ {s : List ℕ} {index : Index} {state : ℕ} (q : QueryRequires s index state) (t : List ℕ) where
-  pub answers_short : length t < table_bytes s → Queries s state t (Err (Refused TableShort)) t
+  answers_short : length t < table_bytes s → Queries s state t (Err (Refused TableShort)) t
   unfolding query_check
   answers_short l =
       by_check s state t TableShort (rw (q.accepted, lt-ltb state (state_count (plan_body s)) q.state_below, q.loop_free_holds, lt-leb (table_bytes s) (length t) l))
 
   module _ (l : table_bytes s ≤ length t) where
-    pub answers_bad_byte : bytes_right (cell_bytes s) t ≡ false → Queries s state t (Err (Refused TableByte)) t
+    answers_bad_byte : bytes_right (cell_bytes s) t ≡ false → Queries s state t (Err (Refused TableByte)) t
     unfolding query_check
     answers_bad_byte g =
         by_check s state t TableByte
@@ -119,26 +88,27 @@ module _ {s : List ℕ} {index : Index} {state : ℕ} (q : QueryRequires s index
     unfolding query_check
     passes g = rw (q.accepted, lt-ltb state (state_count (plan_body s)) q.state_below, q.loop_free_holds, le-leb (table_bytes s) (length t) l, g)
 
-    pub answers_miscounted : bytes_right (cell_bytes s) t ≡ true → stored_count s t ≢ filled_cells s t → Queries s state t (Err WrongCount) t
-    unfolding count_right
-    answers_miscounted g f = by_count s state t (passes g) (ne_eqb (stored_count s t) (filled_cells s t) f)
+  pub answers_turned_down : {x : QueryError} → TurnedDown s t x → Queries s state t (Err x) t
+  answers_turned_down {x} (short e l) = rw e (answers_short l)
+  answers_turned_down {x} (over e l g) = rw e (answers_bad_byte l g)
+  answers_turned_down {x} (miscounted e l g f) = rw e (by_count s state t (passes l g) f)
 
 -- on a table that is taken
-module _ {s : List ℕ} {index : Index} {state : ℕ} {t : List ℕ} {cells stored : ℕ} (q : TableRequires s index state t cells stored) where
+module _ {s : List ℕ} {index : Index} {state : ℕ} {t : List ℕ} {cells stored : ℕ} (q : QueryRequires s index state) (k : Taken s t cells stored) where
   abbrev held : List ℕ
   held = take cells t
 
   pub held_cells : held ≡ cells_in s t
-  held_cells = ap (λ (k : ℕ). take k t) q.cells_are
+  held_cells = ap (λ (k : ℕ). take k t) k.cells_are
 
   pub root_decidable : DecideRequires s index held (cell 0 0 state)
   root_decidable = record {
-    accepted = q.query.accepted;
-    prepared = q.query.prepared;
-    room = omega (arith, ap length held_cells, cells_length s t q.long);
-    node_below = (rule_kept s q.query.accepted).some_nodes;
-    state_below = q.query.state_below;
-    state_settled = q.query.loop_free_holds;
+    accepted = q.accepted;
+    prepared = q.prepared;
+    room = omega (arith, ap length held_cells, cells_length s t k.long);
+    node_below = (rule_kept s q.accepted).some_nodes;
+    state_below = q.state_below;
+    state_settled = q.loop_free_holds;
     mark_right = tt;
   }
 
@@ -146,9 +116,9 @@ module _ {s : List ℕ} {index : Index} {state : ℕ} {t : List ℕ} {cells stor
   pub count_fits : (w n : ℕ) (left : List ℕ) → Decided s (cell 0 0 state) held w left → n ≡ visits_in w → stored + n < 4294967296
   unfolding count_right
   count_fits w n left d e =
-      let counted = eqb-true (stored_count s t) (filled_cells s t) q.count_right_holds in
+      let counted = eqb-true (stored_count s t) (filled_cells s t) k.count_right_holds in
       let few = count_le (cell_bytes s) (λ i. filled (byte_at t i)) in
-      omega (arith, q.stored_is, counted, few, size_small s q.query.accepted, d.small)
+      omega (arith, k.stored_is, counted, few, size_small s q.accepted, d.small)
 
   -- the cells that were decided, and then the count after them
   pub answers_judged : (w : ℕ) (v : Bool) (n : ℕ) (left u : List ℕ)
@@ -160,8 +130,8 @@ module _ {s : List ℕ} {index : Index} {state : ℕ} {t : List ℕ} {cells stor
       ap (λ (x : Result). length (table x)) d.result
       ∙ query_length (position_of (rule_body s)) (cell_bytes s) (cell_at (rule_body s)) (written_rows s) enough held (cell 0 0 state) in
       let r : out v n left ≡ result_of s state t = (λ i. out (p i) (e i) left) ∙ d.result ∙ ap (result_at s (cell 0 0 state)) held_cells in
-      let checked = passes q.query t q.long q.bytes_right_holds in
+      let checked = passes q t k.long k.bytes_right_holds in
       answers s state t (Ok (record { verdict = v; visits = n })) u
-      (rw (checked, q.count_right_holds) (ap (λ (x : Result). Ok (record { verdict = verdict x; visits = visits x })) r))
-      (rw (checked, q.count_right_holds) (counted_after s t q.long q.cells_are left u (stored + n) same f ∙ ap (λ (k : ℕ). table_with s left (k + n) t) q.stored_is
+      (rw (checked, k.count_right_holds) (ap (λ (x : Result). Ok (record { verdict = verdict x; visits = visits x })) r))
+      (rw (checked, k.count_right_holds) (counted_after s t k.long k.cells_are left u (stored + n) same f ∙ ap (λ (k : ℕ). table_with s left (k + n) t) k.stored_is
       ∙ ap (λ (x : Result). table_with s (table x) (stored_count s t + visits x) t) r))

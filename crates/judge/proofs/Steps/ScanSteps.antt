@@ -1,15 +1,17 @@
 -- The pass over the cells of a table: its blocks, and what they tell together.
-use Rattle.std.proofs.Common.{◌≡◌, ℕ, zero, suc, ◌+◌, ◌-◌, ◌/◌, ◌%◌, ◌^◌, ◌<◌, ◌≤◌, Bool, true, false, ltb, ◌≢◌, List, length, sym, refl, ap, ◌∙◌, subst, ap₂, true≢false, add-one, arith, ltb-false, ltb-true, le-ltb}
+use Rattle.std.proofs.Common.{Ok, Err, ◌≡◌, ℕ, zero, suc, ◌+◌, ◌-◌, ◌<◌, ◌≤◌, Bool, true, false, not, ◌||◌, eqb, ltb, List, ◌++◌, length, drop, drop-drop, length-append, length-drop, get_or-drop, sym, refl, ap, ◌∙◌, subst, ap₂, add-one, arith, ltb-false, ltb-true, le-ltb}
 use native.Mathlib.Decide.{dec_lt}
-use lib.Bits.{bit_or, or_zero_l, or_add_and, and_le_r}
+use lib.Seq.{drop-append_seam}
+use Rattle.std.proofs.lemmas.List.{get_or_append_left}
+use mir.Val.{bool_byte}
 use Rattle.sheet.specs.Bytes.{pick}
 use Rattle.sheet.proofs.Checks.Checks.{none_found, one_found}
 use Rattle.rows.specs.Tables.{byte_at, filled, count}
-use Rattle.rows.proofs.Tables.Counting.{one_if, count_zero, count_suc, count_append, count_le}
+use Rattle.rows.proofs.Tables.Counting.{one_if, count_zero, count_suc, count_append, count_cong, count_le}
 use Rattle.judge.specs.Querying.{bytes_right}
-use Rattle.judge.specs.Internal.Scanning.{scan_of, BlockScanned, fine, bad}
-use Rattle.judge.specs.declared.Scanned.{Scanned}
-use Rattle.judge.specs.declared.Scanned.TheVariants.{ByteOver, Filled}
+use Rattle.sheet.specs.declared.Refusal.{Refusal}
+use Rattle.sheet.specs.declared.Refusal.TheVariants.{TableByte}
+use Rattle.judge.specs.Internal.Scanning.{scan_of}
 
 -- whether a byte is over 2
 module _ (size : ℕ) (t : List ℕ) where
@@ -28,76 +30,104 @@ module _ (size : ℕ) (t : List ℕ) where
   unfolding bytes_right
   byte_over h = let f = one_found over size h in (f.0, f.1, ltb-true 2 (byte_at t f.0) f.2)
 
--- the cases of a pass apart
-abbrev is_over : Scanned → Bool
-is_over ByteOver = true
-is_over (Filled n) = false
-
-abbrev filled_in : Scanned → ℕ
-filled_in ByteOver = 0
-filled_in (Filled n) = n
-
-pub over_apart : {n : ℕ} → ByteOver ≡ Filled n → ⊥
-over_apart p = true≢false (ap is_over p)
-
-pub filled_same : {n m : ℕ} → Filled n ≡ Filled m → n ≡ m
-filled_same p = ap filled_in p
-
 -- what a pass over a list tells
-pub scanned_filled : (l : List ℕ) {n : ℕ} → Filled n ≡ scan_of l
+pub scanned_filled : (l : List ℕ) {n : ℕ} → Ok n ≡ scan_of l
     → ((i : ℕ) → i < length l → byte_at l i ≤ 2) × (n ≡ count (length l) (λ i. filled (byte_at l i)))
 unfolding scan_of
 scanned_filled l {n} e = go (bytes_right (length l) l) refl e
   where
-    go : (b : Bool) → bytes_right (length l) l ≡ b → Filled n ≡ pick b (Filled (count (length l) (λ i. filled (byte_at l i)))) ByteOver
+    go : (b : Bool) → bytes_right (length l) l ≡ b → Ok n ≡ pick b (Ok (count (length l) (λ i. filled (byte_at l i)))) (Err TableByte)
         → ((i : ℕ) → i < length l → byte_at l i ≤ 2) × (n ≡ count (length l) (λ i. filled (byte_at l i)))
-    go true q p = (bytes_small (length l) l q, filled_same p)
-    go false q p = absurd (over_apart (sym p))
+    go true q p = (bytes_small (length l) l q, cc)
+    go false q p = absurd (cc)
 
-pub scanned_over : (l : List ℕ) → ByteOver ≡ scan_of l → (i : ℕ) × (i < length l) × (2 < byte_at l i)
+pub scanned_over : (l : List ℕ) {x : Refusal} → Err x ≡ scan_of l → (x ≡ TableByte) × ((i : ℕ) × (i < length l) × (2 < byte_at l i))
 unfolding scan_of
-scanned_over l e = go (bytes_right (length l) l) refl e
+scanned_over l {x} e = go (bytes_right (length l) l) refl e
   where
-    go : (b : Bool) → bytes_right (length l) l ≡ b → ByteOver ≡ pick b (Filled (count (length l) (λ i. filled (byte_at l i)))) ByteOver
-        → (i : ℕ) × (i < length l) × (2 < byte_at l i)
-    go true q p = absurd (over_apart p)
-    go false q p = byte_over (length l) l q
+    go : (b : Bool) → bytes_right (length l) l ≡ b → Err x ≡ pick b (Ok (count (length l) (λ i. filled (byte_at l i)))) (Err TableByte)
+        → (x ≡ TableByte) × ((i : ℕ) × (i < length l) × (2 < byte_at l i))
+    go true q p = absurd (cc)
+    go false q p = (cc, byte_over (length l) l q)
 
--- half of a byte, rounded up: 1 where it is filled
-half_filled : (b : ℕ) → b ≤ 2 → (b + 1) / 2 ≡ one_if (filled b)
-half_filled zero h = refl
-half_filled (suc zero) h = refl
-half_filled (suc (suc zero)) h = refl
-half_filled (suc (suc (suc b))) h = absurd (omega arith)
+pub scan_small : (l : List ℕ) {n : ℕ} → ((i : ℕ) → i < length l → byte_at l i ≤ 2) → n ≡ count (length l) (λ i. filled (byte_at l i)) → Ok n ≡ scan_of l
+unfolding scan_of
+scan_small l h e = rw (bytes_right_holds (length l) l h, e)
 
-or_grows : (a b : ℕ) → a ≤ bit_or a b
-or_grows a b = omega (arith, or_add_and a b, and_le_r a b)
+pub scan_over : (l : List ℕ) (i : ℕ) → i < length l → 2 < byte_at l i → Err TableByte ≡ scan_of l
+unfolding scan_of
+scan_over l i h g = go (bytes_right (length l) l) refl
+  where
+    go : (b : Bool) → bytes_right (length l) l ≡ b → Err TableByte ≡ pick b (Ok (count (length l) (λ i. filled (byte_at l i)))) (Err TableByte)
+    go true q = absurd (omega (arith, bytes_small (length l) l q i h))
+    go false q = refl
 
-module _ (l : List ℕ) (start : ℕ) where
-  pub block_start : BlockScanned l start 0 0 0
-  block_start = fine refl (λ i h. absurd (omega arith)) (sym (count_zero (λ i. filled (byte_at l (start + i)))))
+-- ---- one block
 
-  -- one byte more
-  pub block_next : (i over n half over' n' : ℕ) → i < 255 → BlockScanned l start i over n → half ≡ (byte_at l (start + i) + 1) / 2
-      → over' ≡ bit_or over (half / 2) → n' ≡ (n + half) % 2 ^ 8 → BlockScanned l start (i + 1) over' n'
-  block_next i over n half over' n' h (fine z small c) y o m = elim (dec_lt 2 (byte_at l (start + i))) [
-    | yes g ↦ bad (omega (arith, zero_or)) i (omega arith) g
-    | no g ↦ fine (omega (arith, zero_or)) (λ j k. elim (dec_lt j i) [ yes q ↦ small j q | no q ↦ subst (λ (e : ℕ). byte_at l (start + e) ≤ 2) (same j k q) (omega arith) ])
-        (next (omega arith))
-  ]
+-- what is known of the bytes before a place: whether one is over 2, and how many are filled where none is
+pub record BlockTo (l : List ℕ) (i : ℕ) (over : Bool) (n : ℕ) : Type 0 where
+  pub few : n ≤ i
+  pub small : over ≡ false → (j : ℕ) → j < i → byte_at l j ≤ 2
+  pub counted : over ≡ false → n ≡ count i (λ j. filled (byte_at l j))
+  pub big : over ≡ true → (j : ℕ) × (j < i) × (2 < byte_at l j)
+
+-- a byte of at most 2 is filled where it is not 0
+small_filled : (b : ℕ) → b ≤ 2 → bool_byte (not (eqb b 0)) ≡ one_if (filled b)
+small_filled zero h = refl
+small_filled (suc zero) h = refl
+small_filled (suc (suc zero)) h = refl
+small_filled (suc (suc (suc b))) h = absurd (omega arith)
+
+pub block_start : (l : List ℕ) → BlockTo l 0 false 0
+block_start l = record {
+  few = omega arith;
+  small = λ e j h. absurd (omega arith);
+  counted = λ e. sym (count_zero (λ j. filled (byte_at l j)));
+  big = λ e. absurd (cc);
+}
+
+-- a byte more is over 2, or is filled where it is not 0
+module _ {l : List ℕ} {i n m : ℕ} {over : Bool} (w : BlockTo l i over n) (e : m ≡ bool_byte (not (eqb (byte_at l i) 0))) where
+  pub block_next : BlockTo l (i + 1) (over || ltb 2 (byte_at l i)) (n + m)
+  block_next = go over (ltb 2 (byte_at l i)) refl refl
     where
-      zero_or : over' ≡ half / 2
-      zero_or = o ∙ ap (λ (x : ℕ). bit_or x (half / 2)) z ∙ or_zero_l (half / 2)
+      one_more : m ≤ 1
+      one_more = go (not (eqb (byte_at l i) 0)) e
+        where
+          go : (b : Bool) → m ≡ bool_byte b → m ≤ 1
+          go true f = omega arith
+          go false f = omega arith
 
-      same : (j : ℕ) → j < i + 1 → (j < i → ⊥) → i ≡ j
-      same j k q = omega arith
+      counted_here : byte_at l i ≤ 2 → m ≡ one_if (filled (byte_at l i))
+      counted_here h = e ∙ small_filled (byte_at l i) h
 
-      next : byte_at l (start + i) ≤ 2 → n' ≡ count (i + 1) (λ j. filled (byte_at l (start + j)))
-      next g =
-          let p : ℕ → Bool = λ j. filled (byte_at l (start + j)) in
-          let more : count (i + 1) p ≡ one_if (p i) + count i p = ap (λ (k : ℕ). count k p) (add-one i) ∙ count_suc i p in
-          omega (arith, m, y, half_filled (byte_at l (start + i)) g, more, c, count_le i p)
-  block_next i over n half over' n' h (bad z j k g) y o m = bad (omega (arith, o, or_grows over (half / 2))) j (omega arith) g
+      more : (p : ℕ → Bool) → count (i + 1) p ≡ one_if (p i) + count i p
+      more p = ap (λ (k : ℕ). count k p) (add-one i) ∙ count_suc i p
+
+      go : (a b : Bool) → over ≡ a → ltb 2 (byte_at l i) ≡ b → BlockTo l (i + 1) (a || b) (n + m)
+      go true b p q =
+          let f = w.big p in
+          record { few = omega (arith, w.few, one_more); small = λ e. absurd (cc); counted = λ e. absurd (cc); big = λ e. (f.0, omega arith, f.2) }
+      go false true p q =
+          record {
+            few = omega (arith, w.few, one_more);
+            small = λ e. absurd (cc);
+            counted = λ e. absurd (cc);
+            big = λ e. (i, omega arith, ltb-true 2 (byte_at l i) q);
+          }
+      go false false p q =
+          let here = ltb-false 2 (byte_at l i) q in
+          record {
+            few = omega (arith, w.few, one_more);
+            small = λ e j h. elim (dec_lt j i) [
+              | yes k ↦ w.small p j k
+              | no k ↦ let same : i ≡ j = omega arith in subst (λ (x : ℕ). byte_at l x ≤ 2) same here
+            ];
+            counted = λ e. omega (arith, w.counted p, counted_here here, more (λ j. filled (byte_at l j)));
+            big = λ e. absurd (cc);
+          }
+
+-- ---- the blocks
 
 -- what is known of the cells before a place: none is over 2, and so many are filled
 pub record Scanning (l : List ℕ) (at total : ℕ) : Type 0 where
@@ -108,34 +138,63 @@ pub record Scanning (l : List ℕ) (at total : ℕ) : Type 0 where
 pub scan_start : (l : List ℕ) → Scanning l 0 0
 scan_start l = record { inside = omega arith; small = λ i h. absurd (omega arith); counted = sym (count_zero (λ i. filled (byte_at l i))) }
 
-pub scan_next : (l : List ℕ) (at total size over n : ℕ) → Scanning l at total → at + size ≤ length l → BlockScanned l at size over n → over ≡ 0
-    → Scanning l (at + size) (total + n)
-scan_next l at total size over n s h (bad z i k g) e = absurd (omega arith)
-scan_next l at total size over n s h (fine z small c) e = record {
-  inside = h;
-  small = λ i k. elim (dec_lt i at) [
-    | yes q ↦ s.small i q
-    | no q ↦ let there : at + (i - at) ≡ i = omega arith in subst (λ (j : ℕ). byte_at l j ≤ 2) there (small (i - at) (omega arith))
-  ];
-  counted = ap₂ ◌+◌ s.counted c ∙ sym (count_append at size (λ i. filled (byte_at l i)));
-}
-
 -- no more are filled than there are
 pub scan_bound : (l : List ℕ) (at total : ℕ) → Scanning l at total → total ≤ at
 scan_bound l at total s = omega (arith, s.counted, count_le at (λ i. filled (byte_at l i)))
 
-pub scan_over : (l : List ℕ) (at size o n : ℕ) → at + size ≤ length l → BlockScanned l at size o n → o ≢ 0 → ByteOver ≡ scan_of l
-unfolding scan_of bytes_right
-scan_over l at size o n h (fine z small c) e = absurd (e z)
-scan_over l at size o n h (bad z i k g) e = go (bytes_right (length l) l) refl
-  where
-    go : (b : Bool) → bytes_right (length l) l ≡ b → ByteOver ≡ pick (bytes_right (length l) l) (Filled (count (length l) (λ i. filled (byte_at l i)))) ByteOver
-    go true q = absurd (omega (arith, ltb-false 2 (byte_at l (at + i)) ((none_found (over (length l) l) (length l)).0 q (at + i) (omega arith))))
-    go false q = rw q
+-- the cells before a place have been passed, and a rest is left
+pub record Passed (l rest : List ℕ) (at total : ℕ) : Type 0 where
+  pub scanning : Scanning l at total
+  pub rest_is : rest ≡ drop at l
 
-pub scan_end : (l : List ℕ) (at total : ℕ) → Scanning l at total → length l ≤ at → Filled total ≡ scan_of l
-unfolding scan_of bytes_right
-scan_end l at total s h =
-    let e : at ≡ length l = omega (arith, s.inside) in
-    let right : bytes_right (length l) l ≡ true = bytes_right_holds (length l) l (λ i k. s.small i (omega arith)) in
-    ap Filled (s.counted ∙ ap (λ (k : ℕ). count k (λ i. filled (byte_at l i))) e) ∙ sym (ap (λ (b : Bool). pick b (Filled (count (length l) (λ i. filled (byte_at l i)))) ByteOver) right)
+pub passed_none : (l : List ℕ) → Passed l l 0 0
+passed_none l = record { scanning = scan_start l; rest_is = refl }
+
+module _ {l rest : List ℕ} {at total : ℕ} (w : Passed l rest at total) where
+  -- one block more
+  module _ (block rest' : List ℕ) (e : rest ≡ block ++ rest') where
+    there : drop at l ≡ block ++ rest'
+    there = sym w.rest_is ∙ e
+
+    pub block_ends : at + length block ≤ length l
+    block_ends = omega (arith, w.scanning.inside, length-drop at l, ap length there, length-append block rest')
+
+    pub block_byte : (i : ℕ) → i < length block → byte_at block i ≡ byte_at l (at + i)
+    block_byte i h = sym (get_or_append_left block rest' 0 i h) ∙ ap (λ (k : List ℕ). byte_at k i) (sym there) ∙ get_or-drop at l i 0
+
+    pub passed_over : {x : Refusal} → Err x ≡ scan_of block → (x ≡ TableByte) × ((i : ℕ) × (i < length l) × (2 < byte_at l i))
+    passed_over f =
+        let b = scanned_over block f in
+        (b.0, (at + b.1.0, omega (arith, block_ends, b.1.1), omega (arith, b.1.2, block_byte b.1.0 b.1.1)))
+
+    module _ {n : ℕ} (f : Ok n ≡ scan_of block) where
+      pub block_counted : n ≡ count (length block) (λ i. filled (byte_at l (at + i)))
+      block_counted = (scanned_filled block f).1 ∙ count_cong (length block) _ _ (λ i h. ap filled (block_byte i h))
+
+      pub passed_more : Passed l rest' (at + length block) (total + n)
+      passed_more =
+          let small = (scanned_filled block f).0 in
+          record {
+            scanning = record {
+              inside = block_ends;
+              small = λ i h. elim (dec_lt i at) [
+                | yes k ↦ w.scanning.small i k
+                | no k ↦
+                    let place : at + (i - at) ≡ i = omega arith in
+                    subst (λ (x : ℕ). byte_at l x ≤ 2) place (omega (arith, small (i - at) (omega arith), block_byte (i - at) (omega arith)))
+              ];
+              counted = ap₂ ◌+◌ w.scanning.counted block_counted ∙ sym (count_append at (length block) (λ i. filled (byte_at l i)));
+            };
+            rest_is = sym (drop-append_seam block rest') ∙ ap (drop (length block)) (sym there) ∙ drop-drop (length block) at l;
+          }
+
+  -- no more are filled than there are
+  pub passed_few : total ≤ length l
+  passed_few = omega (arith, scan_bound l at total w.scanning, w.scanning.inside)
+
+  pub passed_all : length rest ≡ 0 → at ≡ length l
+  passed_all e = omega (arith, w.scanning.inside, length-drop at l, ap length w.rest_is)
+
+  pub passed_told : at ≡ length l → Ok total ≡ scan_of l
+  passed_told e =
+      scan_small l (λ i h. w.scanning.small i (omega arith)) (w.scanning.counted ∙ ap (λ (k : ℕ). count k (λ i. filled (byte_at l i))) e)

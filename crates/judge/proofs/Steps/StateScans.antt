@@ -1,15 +1,16 @@
 -- The pass that scans a table state by state: which states have a filled cell.
-use Rattle.std.proofs.Common.{◌≡◌, ℕ, ◌+◌, ◌*◌, ◌<◌, ◌≤◌, Bool, true, false, eqb, ◌≢◌, List, length, get_or, take, drop, set, sym, refl, ap, ◌∙◌, subst, mul-le-mul, arith, length-drop, length-set, length-take-le, get_or-drop, get_or-set_other, get_or-take, get_or-set_same}
+use Rattle.std.proofs.Math.Nat.{mul-le-mul_right, le_of_mul-le-mul_right, lt_of_mul-lt-mul_right, mul-lt-mul_of_pos_right}
+use Rattle.std.proofs.Common.{Ok, Err, ◌++◌, ◌≡◌, ℕ, ◌+◌, ◌*◌, ◌<◌, ◌≤◌, Bool, true, false, eqb, ◌≢◌, List, length, get_or, set, sym, refl, ap, ◌∙◌, subst, arith, length-drop, length-set, get_or-set_other, get_or-set_same}
 use native.Mathlib.Decide.{dec_lt, ℕ_discrete}
 use Rattle.sheet.specs.Bytes.{lowest}
 use Rattle.sheet.proofs.Checks.Checks.{none_found, one_found}
 use Rattle.rows.specs.Tables.{byte_at, filled, count}
-use Rattle.rows.proofs.Tables.Counting.{count_cong, count_none, count_some}
+use Rattle.rows.proofs.Tables.Counting.{count_none, count_some}
 use Rattle.graph.specs.Explored.{StartsFrom}
-use Rattle.judge.specs.Internal.Scanning.{scan_of, BlockScanned, fine, bad}
+use Rattle.judge.specs.Internal.Scanning.{scan_of}
 use Rattle.judge.specs.Internal.Auditing.{ScannedRequires, FilledIn, StatesScanned, over, counted}
-use Rattle.judge.specs.declared.Scanned.TheVariants.{ByteOver, Filled}
-use Rattle.judge.proofs.Steps.ScanSteps.{Scanning, scan_start, scan_next, scan_bound, scanned_filled, scanned_over}
+use Rattle.sheet.specs.declared.Refusal.{Refusal}
+use Rattle.judge.proofs.Steps.ScanSteps.{Passed, passed_none, block_ends, passed_over, block_counted, passed_more, passed_few}
 
 -- where some of the first n numbers pass a test, there is one
 some_counted : (n : ℕ) (p : ℕ → Bool) → count n p ≢ 0 → (j : ℕ) × (j < n) × (p j ≡ true)
@@ -19,118 +20,104 @@ some_counted n p h = go (eqb (lowest p n) n) refl
     go true q = absurd (h (count_none n p ((none_found p n).0 q)))
     go false q = one_found p n q
 
--- the blocks of the states before s are passed
-pub record StatesPassed (cells : List ℕ) (width total at s : ℕ) (starts : List ℕ) : Type 0 where
-  pub place : at ≡ s * width
-  pub scanning : Scanning cells at total
+-- the rows of the states before s are passed, and a rest of the cells is left
+pub record StatesPassed (cells rest : List ℕ) (width total s : ℕ) (starts : List ℕ) : Type 0 where
+  pub passed : Passed cells rest (s * width) total
   pub sized : length starts ≡ 128
   pub named : (u : ℕ) → StartsFrom starts u → (u < s) × FilledIn cells width u
   pub found : (u : ℕ) → u < s → FilledIn cells width u → StartsFrom starts u
 
-module _ {cells : List ℕ} {states width : ℕ} {starts : List ℕ} (asked : ScannedRequires cells states width starts) where
-  pub states_start : StatesPassed cells width 0 0 0 starts
-  states_start = record {
-    place = omega arith;
-    scanning = scan_start cells;
-    sized = asked.sized;
-    named = λ u h. absurd (asked.none u h);
-    found = λ u h e. absurd (omega arith);
-  }
+pub states_start : {cells starts : List ℕ} {width : ℕ} → ScannedRequires cells width starts → StatesPassed cells cells width 0 0 starts
+states_start {cells} asked = record {
+  passed = subst (λ (k : ℕ). Passed cells cells k 0) (omega arith) (passed_none cells);
+  sized = asked.sized;
+  named = λ u h. absurd (asked.none u h);
+  found = λ u h e. absurd (omega arith);
+}
 
-module _ {cells : List ℕ} {states width : ℕ} {starts₀ : List ℕ} (asked : ScannedRequires cells states width starts₀)
-    {total at s : ℕ} {starts : List ℕ} (w : StatesPassed cells width total at s starts) where
-  module _ (more : s < states) where
-    next_place : at + width ≡ (s + 1) * width
-    next_place = ap (λ (x : ℕ). x + width) w.place ∙ omega arith
+module _ {cells starts₀ rest starts : List ℕ} {width total s : ℕ} (asked : ScannedRequires cells width starts₀)
+    (w : StatesPassed cells rest width total s starts) where
+  next_place : s * width + width ≡ (s + 1) * width
+  next_place = omega arith
 
-    pub block_inside : at + width ≤ length cells
-    block_inside =
-        let h : (s + 1) * width ≤ states * width = mul-le-mul {n₂ = states} {m₂ = width} (omega arith) (omega arith) in
-        omega (arith, h, next_place, asked.exact)
+  -- the row of a state more
+  module _ (row rest' : List ℕ) (e : rest ≡ row ++ rest') (long : length row ≡ width) where
+    row_inside : (s + 1) * width ≤ length cells
+    row_inside = omega (arith, block_ends w.passed row rest' e, next_place)
 
-    pub block_few : at + width ≤ 57344
-    block_few = omega (arith, block_inside, asked.exact, asked.few_bytes)
+    pub state_below : s < 128
+    state_below = elim (dec_lt s asked.states) [
+      | yes h ↦ omega (arith, asked.few_states)
+      | no h ↦
+          let past : asked.states * width ≤ s * width = mul-le-mul_right width (omega arith) in
+          absurd (omega (arith, past, row_inside, next_place, asked.exact, asked.some_bytes))
+    ]
 
-    module _ {size : ℕ} (is : size ≡ width) where
-      abbrev block : List ℕ
-      block = take size (drop at cells)
+    pub row_over : {x : Refusal} → Err x ≡ scan_of row → (starts' : List ℕ) → StatesScanned cells width (Err x) starts'
+    row_over f starts' = let b = passed_over w.passed row rest' e f in over (ap Err b.0) b.1.0 b.1.1 b.1.2
 
-      block_byte : (j : ℕ) → j < width → byte_at block j ≡ byte_at cells (at + j)
-      block_byte j h = get_or-take size (drop at cells) j 0 (omega arith) ∙ get_or-drop at cells j 0
+    module _ {n : ℕ} (f : Ok n ≡ scan_of row) where
+      passed_next : Passed cells rest' ((s + 1) * width) (total + n)
+      passed_next = subst (λ (k : ℕ). Passed cells rest' k (total + n)) (ap (λ (k : ℕ). s * width + k) long ∙ next_place) (passed_more w.passed row rest' e f)
 
-      block_length : length block ≡ width
-      block_length = block_long ∙ is
-        where
-          block_long : length block ≡ size
-          block_long = length-take-le size (drop at cells) (omega (arith, length-drop at cells, block_inside))
+      pub row_total : total + n ≤ length cells
+      row_total = passed_few passed_next
 
-      pub block_over : ByteOver ≡ scan_of block → (starts' : List ℕ) → StatesScanned cells states width ByteOver starts'
-      block_over e starts' =
-          let b = scanned_over block e in
-          let l : b.0 < width = omega (arith, b.1, block_length) in
-          over refl (at + b.0) (omega (arith, l, block_inside)) (omega (arith, b.2, block_byte b.0 l))
+      counted_in : n ≡ count width (λ j. filled (byte_at cells (s * width + j)))
+      counted_in = block_counted w.passed row rest' e f ∙ ap (λ (k : ℕ). count k (λ j. filled (byte_at cells (s * width + j)))) long
 
-      module _ {n : ℕ} (e : Filled n ≡ scan_of block) where
-        told : BlockScanned cells at width 0 n
-        told =
-            let b = scanned_filled block e in
-            fine refl (λ i h. omega (arith, b.0 i (omega (arith, block_length)), block_byte i h))
-            (b.1 ∙ ap (λ (k : ℕ). count k (λ i. filled (byte_at block i))) block_length
-            ∙ count_cong width (λ i. filled (byte_at block i)) (λ i. filled (byte_at cells (at + i))) (λ i h. ap filled (block_byte i h)))
+      -- it has no filled cell
+      pub states_none : n ≡ 0 → StatesPassed cells rest' width (total + n) (s + 1) starts
+      states_none z = record {
+        passed = passed_next;
+        sized = w.sized;
+        named = λ u h. let q = w.named u h in (omega (arith, q.0), q.1);
+        found = λ u h q. elim (dec_lt u s) [
+          | yes l ↦ w.found u l q
+          | no l ↦
+              let k : u ≡ s = omega arith in
+              let there : FilledIn cells width s = subst (FilledIn cells width) k q in
+              absurd (count_some width (λ j. filled (byte_at cells (s * width + j))) there.0 there.1 there.2 (sym counted_in ∙ z))
+        ];
+      }
 
-        scanned_next : Scanning cells (at + width) (total + n)
-        scanned_next = scan_next cells at total width 0 n w.scanning block_inside told refl
+      -- it has one
+      pub states_some : n ≢ 0 → StatesPassed cells rest' width (total + n) (s + 1) (set starts s 1)
+      states_some z = record {
+        passed = passed_next;
+        sized = length-set starts s 1 ∙ w.sized;
+        named = λ u h. elim (ℕ_discrete u s) [
+          | yes k ↦
+              (omega arith, subst (FilledIn cells width) (sym k) (some_counted width (λ j. filled (byte_at cells (s * width + j))) (λ e. z (counted_in ∙ e))))
+          | no k ↦ let q = w.named u (λ e. h (get_or-set_other starts s u 1 0 k ∙ e)) in (omega (arith, q.0), q.1)
+        ];
+        found = λ u h q. elim (ℕ_discrete u s) [
+          | yes k ↦
+              let set_there : get_or (set starts s 1) u 0 ≡ 1 =
+              ap (λ (x : ℕ). get_or (set starts s 1) x 0) k ∙ get_or-set_same starts s 1 0 (omega (arith, w.sized, state_below)) in
+              λ e. omega (arith, set_there, e)
+          | no k ↦ λ e. w.found u (omega arith) q (sym (get_or-set_other starts s u 1 0 k) ∙ e)
+        ];
+      }
 
-        pub block_total : total + n ≤ 57344
-        block_total = omega (arith, scan_bound cells (at + width) (total + n) scanned_next, block_few)
+  pub states_end : length rest < width → StatesScanned cells width (Ok total) starts
+  states_end few =
+      counted total refl (λ i h. w.passed.scanning.small i (omega (arith, whole)))
+      (w.passed.scanning.counted ∙ ap (λ (k : ℕ). count k (λ i. filled (byte_at cells i))) whole)
+      (λ u h. let q = w.named u h in (omega (arith, mul-lt-mul_of_pos_right {m = u} {n = s} {k = width} q.0 asked.some_bytes, whole), q.1))
+      (λ u h. w.found u (lt_of_mul-lt-mul_right width (omega (arith, h, whole))))
+    where
+      inside : s * width ≤ length cells
+      inside = w.passed.scanning.inside
 
-        counted_in : n ≡ count width (λ j. filled (byte_at cells (s * width + j)))
-        counted_in = counts told ∙ ap (λ (k : ℕ). count width (λ j. filled (byte_at cells (k + j)))) w.place
-          where
-            counts : BlockScanned cells at width 0 n → n ≡ count width (λ j. filled (byte_at cells (at + j)))
-            counts (fine z small q) = q
-            counts (bad z i k g) = absurd (omega arith)
+      left : length cells < (s + 1) * width
+      left = omega (arith, few, ap length w.passed.rest_is, length-drop (s * width) cells, inside, next_place)
 
-        -- its block has no filled cell
-        pub states_none : n ≡ 0 → StatesPassed cells width (total + n) (at + width) (s + 1) starts
-        states_none z = record {
-          place = next_place;
-          scanning = scanned_next;
-          sized = w.sized;
-          named = λ u h. let q = w.named u h in (omega (arith, q.0), q.1);
-          found = λ u h q. elim (dec_lt u s) [
-            | yes l ↦ w.found u l q
-            | no l ↦
-                let k : u ≡ s = omega arith in
-                let there : FilledIn cells width s = subst (FilledIn cells width) k q in
-                absurd (count_some width (λ j. filled (byte_at cells (s * width + j))) there.0 there.1 there.2 (sym counted_in ∙ z))
-          ];
-        }
+      all : s ≡ asked.states
+      all =
+          let most : s ≤ asked.states = le_of_mul-le-mul_right {m = s} {n = asked.states} {k = width} (omega (arith, inside, asked.exact)) asked.some_bytes in
+          let least : asked.states < s + 1 = lt_of_mul-lt-mul_right width (omega (arith, left, asked.exact)) in
+          omega arith
 
-        -- it has one
-        pub states_some : n ≢ 0 → {i : ℕ} → i ≡ s → StatesPassed cells width (total + n) (at + width) (s + 1) (set starts i 1)
-        states_some z {i} is-s = record {
-          place = next_place;
-          scanning = scanned_next;
-          sized = length-set starts i 1 ∙ w.sized;
-          named = λ u h. elim (ℕ_discrete u s) [
-            | yes k ↦
-                (omega arith, subst (FilledIn cells width) (sym k) (some_counted width (λ j. filled (byte_at cells (s * width + j))) (λ e. z (counted_in ∙ e))))
-            | no k ↦ let q = w.named u (λ e. h (get_or-set_other starts i u 1 0 (λ g. k (g ∙ is-s)) ∙ e)) in (omega (arith, q.0), q.1)
-          ];
-          found = λ u h q. elim (ℕ_discrete u s) [
-            | yes k ↦
-                let set_there : get_or (set starts i 1) u 0 ≡ 1 =
-                ap (λ (x : ℕ). get_or (set starts i 1) x 0) (k ∙ sym is-s) ∙ get_or-set_same starts i 1 0 (omega (arith, w.sized, asked.few_states)) in
-                λ e. omega (arith, set_there, e)
-            | no k ↦ λ e. w.found u (omega arith) q (sym (get_or-set_other starts i u 1 0 (λ g. k (g ∙ is-s))) ∙ e)
-          ];
-        }
-
-  pub states_end : states ≤ s → s ≤ states → StatesScanned cells states width (Filled total) starts
-  states_end past within =
-      let all_passed : s ≡ states = omega arith in
-      let whole : at ≡ length cells = w.place ∙ ap (λ (x : ℕ). x * width) all_passed ∙ sym asked.exact in
-      counted total refl (λ i h. w.scanning.small i (omega arith))
-      (w.scanning.counted ∙ ap (λ (k : ℕ). count k (λ i. filled (byte_at cells i))) whole)
-      (λ u h. let q = w.named u h in (omega (arith, q.0), q.1)) (λ u h. w.found u (omega arith))
+      whole : s * width ≡ length cells
+      whole = ap (λ (k : ℕ). k * width) all ∙ sym asked.exact

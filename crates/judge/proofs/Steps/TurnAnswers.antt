@@ -1,5 +1,5 @@
 -- What the code of queries in turn shows: each answer is the one that the checks give.
-use Rattle.std.proofs.Common.{◌≡◌, ℕ, ◌+◌, ◌<◌, ◌≤◌, Bool, true, false, ltb, ◌≢◌, List, ◌++◌, length, get_or, take, drop, replicate, ap, ◌∙◌, ap₂, arith, ltb-true, lt-ltb, ne_eqb, eqb-true, le-leb}
+use Rattle.std.proofs.Common.{Ok, Err, Result, ◌≡◌, ℕ, ◌+◌, ◌<◌, ◌≤◌, Bool, true, false, ltb, ◌≢◌, List, ◌++◌, length, take, drop, ap, ◌∙◌, ap₂, arith, ltb-true, lt-ltb, ne_eqb, eqb-true, le-leb}
 use mathlib.Core.List.{Memᴰ}
 use borrow.Author.Tests.{lt-leb}
 use Rattle.sheet.specs.Contents.{plan_body}
@@ -7,32 +7,30 @@ use Rattle.sheet.specs.Plan.{state_count}
 use Rattle.sheet.specs.Reading.{sheet_check}
 use Rattle.sheet.specs.declared.Refusal.{Refusal}
 use Rattle.sheet.specs.declared.Refusal.TheVariants.{NoSuchState, Loop, TableShort, TableByte}
-use Rattle.std.specs.Prelude.{Err, Ok}
-use Rattle.sheet.proofs.Acceptance.Parts.{few_states}
 use Rattle.sheet.proofs.Checks.Bools.{differ, fails}
 use Rattle.rows.specs.Rows.{conjunction}
-use Rattle.rows.specs.Tables.{byte_at, filled, Result, visits, table}
+use Rattle.rows.specs.Tables.{byte_at, filled, Result as CellResult, visits, table}
 use Rattle.rows.proofs.Tables.Counting.{count_le}
 use Rattle.rows.proofs.Tables.Filling.{fill_length}
 use Rattle.rows.proofs.Solver.Walks.{along, walked}
 use Rattle.graph.specs.Explored.{StartsFrom}
 use Rattle.graph.specs.LoopTest.{all_pass, loop_free}
 use Rattle.graph.proofs.Looptest.Settled.{all_member, all_members}
-use Rattle.graph.proofs.Search.Colouring.{colourless}
 use Rattle.judge.specs.declared.index.Index.{Index}
 use Rattle.judge.specs.Cells.{cell_bytes, table_bytes, cells_in, count_bytes}
 use Rattle.judge.specs.StoredCount.{in_four_bytes, stored_count, filled_cells, table_with}
 use Rattle.judge.specs.Querying.{bytes_right, count_right}
 use Rattle.judge.specs.InTurn.{root_cells, in_turn_check, result_in_turn, passed_before, in_turn_of, table_in_turn, reported_in_turn, QueriesInTurn}
-use Rattle.std.specs.Prelude.{Ok, Err}
 use Rattle.judge.specs.InTurn.{InTurn}
 use Rattle.judge.specs.declared.QueryError.TheVariants.{WrongCount, Refused}
 use Rattle.judge.specs.Internal.Preparing.{RuleTold, StatesAsked, StatesTold, looped, told}
-use Rattle.judge.specs.Internal.Turns.{MarkRequires, StatesMarked, missing, marked, EachPrepared, holds_on, walk_in_turn, WalkRequires, WalkedInTurn, TurnsRequires}
+use Rattle.judge.specs.Internal.Turns.{StatesMarked, missing, marked, EachPrepared, holds_on, walk_in_turn, WalkRequires, WalkedInTurn}
 use Rattle.judge.proofs.Cells.CountLayout.{cells_length}
 use Rattle.judge.proofs.Lists.FilledTables.{solved}
 use Rattle.judge.proofs.Steps.DecideSteps.{size_small}
 use Rattle.judge.proofs.Steps.QueryAnswers.{counted_after}
+use Rattle.judge.proofs.Steps.RightCount.{Taken, TurnedDown, short, over, miscounted}
+use Rattle.judge.specs.declared.QueryError.{QueryError}
 use Rattle.judge.proofs.Steps.TurnSteps.{walk_is}
 
 module _ (s states t : List ℕ) where
@@ -73,37 +71,29 @@ module _ (s states t : List ℕ) where
 
 -- ---- the states of the list
 
-pub none_marked : (s : List ℕ) → sheet_check s ≡ Ok tt → {count : ℕ} → count ≡ state_count (plan_body s) → {starts : List ℕ} → starts ≡ replicate 128 0
-    → MarkRequires count starts
-none_marked s accepted is e = record {
-  few = omega (arith, few_states s accepted);
-  sized = ap length e;
-  none = λ u h. h (ap (λ (l : List ℕ). get_or l u 0) e ∙ colourless 128 u);
-}
-
 module _ (s : List ℕ) {states : List ℕ} (accepted : sheet_check s ≡ Ok tt) {count : ℕ} (is : count ≡ state_count (plan_body s))
-    {starts : List ℕ} {b : Bool} (m : StatesMarked states count starts b) where
-  pub one_missing : b ≡ false → (t : List ℕ) → QueriesInTurn s states t (Err (Refused NoSuchState)) t
-  one_missing e t = go m
+    {r : Result (List ℕ) Refusal} (m : StatesMarked states count r) where
+  pub one_missing : {x : Refusal} → r ≡ Err x → (t : List ℕ) → QueriesInTurn s states t (Err (Refused x)) t
+  one_missing {x} e t = go m
     where
-      go : StatesMarked states count starts b → QueriesInTurn s states t (Err (Refused NoSuchState)) t
-      go (missing _ u h l) = in_turn_no_state s states t accepted u h (omega arith)
-      go (marked f _ _) = absurd (differ b f e)
+      go : StatesMarked states count r → QueriesInTurn s states t (Err (Refused x)) t
+      go (missing f u h l) = let same : x ≡ NoSuchState = cc in rw same (in_turn_no_state s states t accepted u h (omega arith))
+      go (marked starts f _ _) = absurd (cc)
 
-  module _ (e : b ≡ true) where
+  module _ {starts : List ℕ} (e : r ≡ Ok starts) where
     listed : (u : ℕ) → Memᴰ u states → (u < state_count (plan_body s)) × StartsFrom starts u
     listed = go m
       where
-        go : StatesMarked states count starts b → (u : ℕ) → Memᴰ u states → (u < state_count (plan_body s)) × StartsFrom starts u
-        go (missing f _ _ _) = absurd (differ b e f)
-        go (marked _ all named) = λ u h. let a = all u h in (omega (arith, a.0), a.1)
+        go : StatesMarked states count r → (u : ℕ) → Memᴰ u states → (u < state_count (plan_body s)) × StartsFrom starts u
+        go (missing f _ _ _) = absurd (cc)
+        go (marked named f all _) = λ u h. let a = all u h in let same : starts ≡ named = cc in (omega (arith, a.0), rw same a.1)
 
     named : (u : ℕ) → StartsFrom starts u → Memᴰ u states
     named = go m
       where
-        go : StatesMarked states count starts b → (u : ℕ) → StartsFrom starts u → Memᴰ u states
-        go (missing f _ _ _) = absurd (differ b e f)
-        go (marked _ all back) = back
+        go : StatesMarked states count r → (u : ℕ) → StartsFrom starts u → Memᴰ u states
+        go (missing f _ _ _) = absurd (cc)
+        go (marked named f _ back) = let same : starts ≡ named = cc in rw same back
 
     pub list_asked : {index : Index} → RuleTold s index → StatesAsked s index starts
     list_asked r = record { accepted = accepted; rule_told = r; starts_below = λ u h. (listed u (named u h)).0 }
@@ -158,8 +148,13 @@ module _ {s states : List ℕ} (p : StatesTaken s states) (t : List ℕ) where
     unfolding count_right
     in_turn_miscounted g f = by_count s states t (passes g) (ne_eqb (stored_count s t) (filled_cells s t) f)
 
+  pub in_turn_turned_down : {x : QueryError} → TurnedDown s t x → QueriesInTurn s states t (Err x) t
+  in_turn_turned_down {x} (short e l) = rw e (in_turn_short l)
+  in_turn_turned_down {x} (over e l g) = rw e (in_turn_bad_byte l g)
+  in_turn_turned_down {x} (miscounted e l g f) = rw e (by_count s states t (passes l g) f)
+
 -- on a table that is taken
-module _ {s : List ℕ} {index : Index} {states t : List ℕ} {cells stored : ℕ} (q : TurnsRequires s index states t cells stored) where
+module _ {s : List ℕ} {index : Index} {states t : List ℕ} {cells stored : ℕ} (p : EachPrepared s index states) (q : Taken s t cells stored) where
   abbrev held : List ℕ
   held = take cells t
 
@@ -170,7 +165,7 @@ module _ {s : List ℕ} {index : Index} {states t : List ℕ} {cells stored : �
   room = omega (arith, ap length held_cells, cells_length s t q.long)
 
   pub walk_asked : WalkRequires s index states held
-  walk_asked = record { prepared = q.prepared; room = room }
+  walk_asked = record { prepared = p; room = room }
 
   module _ {k n : ℕ} {left : List ℕ} (w : WalkedInTurn s states held k n left) where
     -- the count stays small
@@ -179,24 +174,24 @@ module _ {s : List ℕ} {index : Index} {states t : List ℕ} {cells stored : �
     turns_fit =
         let counted = eqb-true (stored_count s t) (filled_cells s t) q.count_right_holds in
         let few = count_le (cell_bytes s) (λ i. filled (byte_at t i)) in
-        omega (arith, q.stored_is, counted, few, size_small s q.prepared.accepted, w.few)
+        omega (arith, q.stored_is, counted, few, size_small s p.accepted, w.few)
 
     -- the cells that the walk leaves, and then the count after them
     pub in_turn_judged : (u : List ℕ) → u ≡ take cells (left ++ drop cells t) ++ (in_four_bytes (stored + n) ++ drop (cells + count_bytes) (left ++ drop cells t))
         → QueriesInTurn s states t (Ok (record { passed = k; visits = n })) u
     unfolding in_turn_of table_in_turn
     in_turn_judged u f =
-        let right = solved s q.prepared.accepted in
+        let right = solved s p.accepted in
         let whole : walk_in_turn s states held ≡ result_in_turn s states t =
-        walk_is q.prepared held room ∙ ap (λ (cells : List ℕ). walked_on cells) held_cells in
+        walk_is p held room ∙ ap (λ (cells : List ℕ). walked_on cells) held_cells in
         let same : length left ≡ length held =
-        ap length (w.left_is ∙ ap table (walk_is q.prepared held room)) ∙ fill_length right held (along right held conjunction (root_cells states)) in
-        let checked = passes (states_taken q.prepared) t q.long q.bytes_right_holds in
+        ap length (w.left_is ∙ ap table (walk_is p held room)) ∙ fill_length right held (along right held conjunction (root_cells states)) in
+        let checked = passes (states_taken p) t q.long q.bytes_right_holds in
         answers s states t (Ok (record { passed = k; visits = n })) u
         (rw (checked, q.count_right_holds)
         (ap₂ (λ (k n : ℕ). Ok (record { passed = k; visits = n })) (w.passed_is ∙ ap (λ (cells : List ℕ). passed_before (holds_on s cells) states) held_cells) (w.visits_are ∙ ap visits whole)))
         (rw (checked, q.count_right_holds) (counted_after s t q.long q.cells_are left u (stored + n) same f
         ∙ ap₂ (λ (l : List ℕ) (m : ℕ). table_with s l m t) (w.left_is ∙ ap table whole) (ap₂ ◌+◌ q.stored_is (w.visits_are ∙ ap visits whole))))
       where
-        walked_on : List ℕ → Result
-        walked_on cells = walked (solved s q.prepared.accepted) cells conjunction (root_cells states)
+        walked_on : List ℕ → CellResult
+        walked_on cells = walked (solved s p.accepted) cells conjunction (root_cells states)

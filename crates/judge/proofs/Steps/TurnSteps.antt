@@ -1,5 +1,5 @@
 -- What the loops of queries in turn show: the states of the list are marked, and their cells are walked along.
-use Rattle.std.proofs.Common.{◌≡◌, ℕ, zero, suc, ◌+◌, ◌<◌, ◌≤◌, Bool, true, false, ◌⊎◌, List, [], ◌∷◌, length, get_or, drop, set, sym, refl, ap, ◌∙◌, subst, inl, inr, ⊎_elim, le_of_suc-le-suc, not-suc-le-zero, add-one, arith, length-set, drop-cons, get_or-set_other, get_or-set_same}
+use Rattle.std.proofs.Common.{Ok, Err, replicate, ◌≡◌, ℕ, zero, suc, ◌+◌, ◌<◌, ◌≤◌, Bool, true, false, ◌⊎◌, List, [], ◌∷◌, length, get_or, drop, set, sym, refl, ap, ◌∙◌, subst, inl, inr, ⊎_elim, le_of_suc-le-suc, not-suc-le-zero, add-one, arith, length-set, drop-cons, get_or-set_other, get_or-set_same}
 use mathlib.Core.List.Memᴰ
 use mathlib.Core.List.{Memᴰ}
 use native.Mathlib.Decide.{ℕ_discrete}
@@ -16,14 +16,16 @@ use Rattle.rows.proofs.Solver.Solver.{walk_decided, walk_on}
 use Rattle.rows.proofs.Solver.Walks.{query_answer, Solves, walked, walk_solves}
 use Rattle.rows.proofs.Solver.Solved.{Right, query_right}
 use Rattle.rows.proofs.Solver.QueryByRow.{walk_none}
+use Rattle.sheet.specs.declared.Refusal.TheVariants.{NoSuchState}
 use Rattle.graph.specs.Explored.{StartsFrom}
+use Rattle.graph.proofs.Search.Colouring.{colourless}
 use Rattle.judge.specs.declared.index.Index.{Index}
 use Rattle.judge.specs.Cells.{Cell, cell, cell_bytes}
 use Rattle.judge.specs.Querying.{result_at}
 use Rattle.judge.specs.InTurn.{root_cells, passed_before}
 use Rattle.judge.specs.Internal.Deciding.{DecideRequires, Decided}
 use Rattle.judge.specs.Internal.Packed.{verdict_in, visits_in}
-use Rattle.judge.specs.Internal.Turns.{MarkRequires, StatesMarked, missing, marked, EachPrepared, solution_on, holds_on, walk_in_turn, WalkRequires, WalkedInTurn}
+use Rattle.judge.specs.Internal.Turns.{StatesMarked, missing, marked, EachPrepared, solution_on, holds_on, walk_in_turn, WalkRequires, WalkedInTurn}
 use Rattle.judge.proofs.Cells.ValidCells.{root_valid}
 use Rattle.judge.proofs.Lists.FilledTables.{solved}
 use Rattle.judge.proofs.Steps.DecideSteps.{ValidAt}
@@ -52,18 +54,18 @@ pub record MarkedTo (states : List ℕ) (count i : ℕ) (starts : List ℕ) : Ty
   pub named : (u : ℕ) → StartsFrom starts u → Memᴰ u states
   pub others : (u : ℕ) → Memᴰ u states → ((u < count) × StartsFrom starts u) ⊎ Memᴰ u (drop i states)
 
-pub marks_start : (states : List ℕ) {count : ℕ} {starts : List ℕ} → MarkRequires count starts → MarkedTo states count 0 starts
-marks_start states asked = record {
+pub marks_start : (states : List ℕ) {count : ℕ} → MarkedTo states count 0 (replicate 128 0)
+marks_start states = record {
   within = omega arith;
-  sized = asked.sized;
-  named = λ u h. absurd (asked.none u h);
+  sized = refl;
+  named = λ u h. absurd (h (colourless 128 u));
   others = λ u m. inr m;
 }
 
 module _ {states : List ℕ} {count i : ℕ} {starts : List ℕ} (w : MarkedTo states count i starts) where
   module _ (more : i < length states) where
-    pub marks_missing : count ≤ get_or states i 0 → (starts' : List ℕ) → StatesMarked states count starts' false
-    marks_missing h starts' = missing refl (get_or states i 0) (member_at states i more) h
+    pub marks_missing : count ≤ get_or states i 0 → StatesMarked states count (Err NoSuchState)
+    marks_missing h = missing refl (get_or states i 0) (member_at states i more) h
 
     module _ (few : count ≤ 128) (h : get_or states i 0 < count) {at : ℕ} (e : at ≡ get_or states i 0) where
       set_there : StartsFrom (set starts at 1) at
@@ -93,8 +95,8 @@ module _ {states : List ℕ} {count i : ℕ} {starts : List ℕ} (w : MarkedTo s
           here u (inl q) = inl (omega arith, subst (StartsFrom (set starts at 1)) (e ∙ sym q) set_there)
           here u (inr r) = inr r
 
-  pub marks_end : length states ≤ i → StatesMarked states count starts true
-  marks_end past = marked refl (λ u m. ⊎_elim (λ a. a) (λ r. absurd (Memᴰ.not-nil (subst (Memᴰ u) (none_left states i w.within past) r))) (w.others u m)) w.named
+  pub marks_end : length states ≤ i → StatesMarked states count (Ok starts)
+  marks_end past = marked starts refl (λ u m. ⊎_elim (λ a. a) (λ r. absurd (Memᴰ.not-nil (subst (Memᴰ u) (none_left states i w.within past) r))) (w.others u m)) w.named
 
 -- ---- the walk
 

@@ -1,23 +1,22 @@
 -- What the code of an audit works with, asks and promises.
-use Rattle.std.specs.Prelude.{◌≡◌, ℕ, zero, suc, ◌+◌, ◌*◌, ◌<◌, ◌≤◌, Bool, true, false, ◌&&◌, ◌≢◌, List, length, nat_lt, slice_index, Ok}
+use Rattle.std.specs.Prelude.{◌≡◌, ℕ, zero, suc, ◌+◌, ◌*◌, ◌<◌, ◌≤◌, Bool, true, false, ◌&&◌, ◌≢◌, List, length, nat_lt, slice_index, Result, Ok, Err}
 use Rattle.sheet.specs.Bytes.{pick}
 use Rattle.sheet.specs.Contents.{plan_body, actions_body, rule_body}
 use Rattle.sheet.specs.Plan.{state_count, action_count}
 use Rattle.sheet.specs.Rule.{node_count, node_x, node_y}
 use Rattle.sheet.specs.Reading.{sheet_check}
 use Rattle.sheet.specs.TransitionSystem.{plan_of}
+use Rattle.sheet.specs.declared.Refusal.{Refusal}
+use Rattle.sheet.specs.declared.Refusal.TheVariants.{TableByte}
 use Rattle.rows.specs.Tables.{byte_at, filled, known, count}
 use Rattle.rows.specs.FollowsFrom.{enough_filled_with, follows_from}
 use Rattle.graph.specs.Explored.{StartsFrom}
 use Rattle.graph.specs.LoopTest.{loop_free}
-use Rattle.judge.specs.Cells.{Cell, cell, following, written_rows, position_of, marks, cell_bytes, table_bytes}
-use Rattle.judge.specs.StoredCount.{filled_cells}
+use Rattle.judge.specs.Cells.{Cell, cell, following, written_rows, position_of, marks, cell_bytes}
 use Rattle.judge.specs.Auditing.{every_below, mark_allowed}
 use Rattle.judge.specs.Internal.Index.{Prepared}
 use Rattle.judge.specs.declared.index.Index.{Index}
 use Rattle.judge.specs.Internal.Preparing.{RuleTold}
-use Rattle.judge.specs.declared.Scanned.{Scanned}
-use Rattle.judge.specs.declared.Scanned.TheVariants.{ByteOver, Filled}
 
 -- ---- one cell
 
@@ -92,10 +91,11 @@ pub record CellsRequires (s : List ℕ) (index : Index) (t starts : List ℕ) : 
 -- ---- the pass that scans
 
 -- the cells of at most 128 states, width bytes each, and no state named yet
-pub record ScannedRequires (cells : List ℕ) (states width : ℕ) (starts : List ℕ) : Type 0 where
+pub record ScannedRequires (cells : List ℕ) (width : ℕ) (starts : List ℕ) : Type 0 where
+  pub states : ℕ
+  pub some_bytes : 0 < width
   pub exact : length cells ≡ states * width
   pub few_states : states ≤ 128
-  pub few_bytes : states * width ≤ 57344
   pub sized : length starts ≡ 128
   pub none : (u : ℕ) → StartsFrom starts u → ⊥
 
@@ -104,28 +104,11 @@ abbrev pub FilledIn : List ℕ → ℕ → ℕ → Type 0
 FilledIn cells width u = (j : ℕ) × (j < width) × (filled (byte_at cells (u * width + j)) ≡ true)
 
 -- a byte is over 2; or none is, so many are filled, and starts names the states that have a filled one
-pub data StatesScanned (cells : List ℕ) (states width : ℕ) (r : Scanned) (starts : List ℕ) : Type 0 where
-  over : r ≡ ByteOver → (i : ℕ) → i < length cells → 2 < byte_at cells i → StatesScanned cells states width r starts
+pub data StatesScanned (cells : List ℕ) (width : ℕ) (r : Result ℕ Refusal) (starts : List ℕ) : Type 0 where
+  over : r ≡ Err TableByte → (i : ℕ) → i < length cells → 2 < byte_at cells i → StatesScanned cells width r starts
   counted :
-      (n : ℕ) → r ≡ Filled n → ((i : ℕ) → i < length cells → byte_at cells i ≤ 2)
+      (n : ℕ) → r ≡ Ok n → ((i : ℕ) → i < length cells → byte_at cells i ≤ 2)
       → n ≡ count (length cells) (λ i. filled (byte_at cells i))
-      → ((u : ℕ) → StartsFrom starts u → (u < states) × FilledIn cells width u)
-      → ((u : ℕ) → u < states → FilledIn cells width u → StartsFrom starts u)
-      → StatesScanned cells states width r starts
-
--- ---- the steps of the call
-
--- an accepted sheet, with what is prepared of its rule, and a table that is long enough
-pub record LongTableRequires (s : List ℕ) (index : Index) (t : List ℕ) (cells : ℕ) : Type 0 where
-  pub accepted : sheet_check s ≡ Ok tt
-  pub rule_told : RuleTold s index
-  pub cells_are : cells ≡ cell_bytes s
-  pub long : table_bytes s ≤ length t
-
--- all prepared for each state with a filled cell, no byte over 2, and so many cells filled
-pub record AuditRequires (s : List ℕ) (index : Index) (t starts : List ℕ) (cells n : ℕ) : Type 0 where
-  pub cells_asked : CellsRequires s index t starts
-  pub cells_are : cells ≡ cell_bytes s
-  pub long : table_bytes s ≤ length t
-  pub small : (i : ℕ) → i < cell_bytes s → byte_at t i ≤ 2
-  pub filled_are : n ≡ filled_cells s t
+      → ((u : ℕ) → StartsFrom starts u → (u * width < length cells) × FilledIn cells width u)
+      → ((u : ℕ) → u * width < length cells → FilledIn cells width u → StartsFrom starts u)
+      → StatesScanned cells width r starts

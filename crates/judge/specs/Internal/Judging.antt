@@ -1,20 +1,22 @@
--- What the sizes of a table stay below, and what the last step of a query asks.
-use Rattle.std.specs.Prelude.{◌≡◌, ℕ, ◌≤◌, true, List, length}
-use Rattle.judge.specs.Cells.{cell_bytes, table_bytes}
-use Rattle.judge.specs.StoredCount.{stored_count}
-use Rattle.judge.specs.Querying.{bytes_right, count_right}
-use Rattle.judge.specs.declared.index.Index.{Index}
-use Rattle.judge.specs.Internal.Index.{QueryRequires}
+-- What the sizes of a table stay below, and the count of a table that a query takes.
+use Rattle.std.specs.Prelude.{ℕ, List, length, ◌==◌, nat_le, Result, Ok, Err}
+use Rattle.sheet.specs.Bytes.{pick}
+use Rattle.sheet.specs.declared.Refusal.TheVariants.{TableShort, TableByte}
+use Rattle.rows.specs.Tables.{byte_at, filled, count}
+use Rattle.judge.specs.Cells.{table_bytes_for}
+use Rattle.judge.specs.StoredCount.{number_at}
+use Rattle.judge.specs.Querying.{bytes_right}
+use Rattle.judge.specs.declared.QueryError.{QueryError}
+use Rattle.judge.specs.declared.QueryError.TheVariants.{WrongCount, Refused}
 
 -- no product of three bytes is larger
 abbrev pub product_bound : ℕ
 product_bound = 16777216
 
--- all prepared for a query, and a table that is not refused
-pub record TableRequires (s : List ℕ) (index : Index) (state : ℕ) (t : List ℕ) (cells stored : ℕ) : Type 0 where
-  pub query : QueryRequires s index state
-  pub cells_are : cells ≡ cell_bytes s
-  pub long : table_bytes s ≤ length t
-  pub bytes_right_holds : bytes_right (cell_bytes s) t ≡ true
-  pub stored_is : stored ≡ stored_count s t
-  pub count_right_holds : count_right s t ≡ true
+-- the count of a table with so many bytes of cells, or why a query does not take the table: 20, 21, then 35
+unfoldable pub right_count : ℕ → List ℕ → Result ℕ QueryError
+right_count cells t =
+    pick (nat_le (table_bytes_for cells) (length t))
+    (pick (bytes_right cells t)
+    (pick (number_at t cells == count cells (λ i. filled (byte_at t i))) (Ok (number_at t cells)) (Err WrongCount))
+    (Err (Refused TableByte))) (Err (Refused TableShort))

@@ -1,15 +1,16 @@
 -- What the code of queries in turn asks and promises.
-use Rattle.std.specs.Prelude.{◌≡◌, ℕ, ◌<◌, ◌≤◌, Bool, true, false, List, length, Ok}
+use Rattle.std.specs.Prelude.{◌≡◌, ℕ, ◌<◌, ◌≤◌, Bool, List, length, Result, Ok, Err}
 use mathlib.Core.List.{Memᴰ}
 use Rattle.sheet.specs.Contents.{rule_body}
 use Rattle.sheet.specs.Reading.{sheet_check}
+use Rattle.sheet.specs.declared.Refusal.{Refusal}
+use Rattle.sheet.specs.declared.Refusal.TheVariants.{NoSuchState}
 use Rattle.rows.specs.Rows.{conjunction, value}
-use Rattle.rows.specs.Tables.{Result, visits, table, changed}
+use Rattle.rows.specs.Tables.{Result as CellResult, visits, table, changed}
 use Rattle.rows.specs.Internal.Solver.{walk}
 use Rattle.graph.specs.Explored.{StartsFrom}
-use Rattle.judge.specs.Cells.{Cell, cell, written_rows, enough, position_of, cell_bytes, table_bytes}
-use Rattle.judge.specs.StoredCount.{stored_count}
-use Rattle.judge.specs.Querying.{bytes_right, count_right, result_at}
+use Rattle.judge.specs.Cells.{Cell, cell, written_rows, enough, position_of, cell_bytes}
+use Rattle.judge.specs.Querying.{result_at}
 use Rattle.judge.specs.InTurn.{root_cells, passed_before}
 use Rattle.judge.specs.declared.index.Index.{Index}
 use Rattle.judge.specs.Internal.Index.{QueryRequires}
@@ -17,19 +18,13 @@ use Rattle.judge.specs.Internal.Preparing.{RuleTold}
 
 -- ---- the states of the list
 
--- a plan has at most 128 states, and none is named yet
-pub record MarkRequires (count : ℕ) (starts : List ℕ) : Type 0 where
-  pub few : count ≤ 128
-  pub sized : length starts ≡ 128
-  pub none : (u : ℕ) → StartsFrom starts u → ⊥
-
 -- one of the states is not below the count, or all are, and starts names them and no other
-pub data StatesMarked (states : List ℕ) (count : ℕ) (starts : List ℕ) (b : Bool) : Type 0 where
-  missing : b ≡ false → (u : ℕ) → Memᴰ u states → count ≤ u → StatesMarked states count starts b
+pub data StatesMarked (states : List ℕ) (count : ℕ) (r : Result (List ℕ) Refusal) : Type 0 where
+  missing : r ≡ Err NoSuchState → (u : ℕ) → Memᴰ u states → count ≤ u → StatesMarked states count r
   marked :
-      b ≡ true → ((u : ℕ) → Memᴰ u states → (u < count) × StartsFrom starts u)
+      (starts : List ℕ) → r ≡ Ok starts → ((u : ℕ) → Memᴰ u states → (u < count) × StartsFrom starts u)
       → ((u : ℕ) → StartsFrom starts u → Memᴰ u states)
-      → StatesMarked states count starts b
+      → StatesMarked states count r
 
 -- an accepted sheet, with what is prepared of its rule and for a query of each state of the list
 pub record EachPrepared (s : List ℕ) (index : Index) (states : List ℕ) : Type 0 where
@@ -47,7 +42,7 @@ abbrev pub holds_on : List ℕ → List ℕ → ℕ → Bool
 holds_on s cells state = solution_on s cells (cell 0 0 state)
 
 -- the walk that queries the states' cells, each on the cells so far
-abbrev pub walk_in_turn : List ℕ → List ℕ → List ℕ → Result
+abbrev pub walk_in_turn : List ℕ → List ℕ → List ℕ → CellResult
 walk_in_turn s states cells = walk (result_at s) conjunction (root_cells states) cells
 
 pub record WalkRequires (s : List ℕ) (index : Index) (states cells : List ℕ) : Type 0 where
@@ -59,12 +54,3 @@ pub record WalkedInTurn (s states cells : List ℕ) (passed n : ℕ) (left : Lis
   pub visits_are : n ≡ visits (walk_in_turn s states cells)
   pub left_is : left ≡ table (walk_in_turn s states cells)
   pub few : n ≤ cell_bytes s
-
--- all prepared, and a table that is not refused
-pub record TurnsRequires (s : List ℕ) (index : Index) (states t : List ℕ) (cells stored : ℕ) : Type 0 where
-  pub prepared : EachPrepared s index states
-  pub cells_are : cells ≡ cell_bytes s
-  pub long : table_bytes s ≤ length t
-  pub bytes_right_holds : bytes_right (cell_bytes s) t ≡ true
-  pub stored_is : stored ≡ stored_count s t
-  pub count_right_holds : count_right s t ≡ true

@@ -22,8 +22,7 @@ use Rattle.patterns.specs.Internal.Putting.{every_of, Follows, PartRequires, Par
 use Rattle.patterns.specs.Internal.Answering.{BodyWritten, Readable, BodyAnswered}
 use Rattle.patterns.specs.Internal.Nodes.{Progress, Made, Exceeded}
 use Rattle.std.proofs.Common.{Ok, Err}
-use Rattle.patterns.specs.declared.TranslateError.TheVariants.{TooLarge, Refused}
-use Rattle.sheet.specs.declared.Refusal.TheVariants.{OutputShort}
+use Rattle.patterns.specs.declared.TranslateError.TheVariants.{TooLarge}
 use Rattle.patterns.proofs.Translation.Sizes.{short_pattern}
 use Rattle.patterns.proofs.Statements.Answers.{tree_large, tree_short, tree_wrote}
 use Rattle.patterns.proofs.Steps.Parts.{written_part_lem}
@@ -55,13 +54,6 @@ module _ {t : Tree} {made made' : List ℕ} {n b : ℕ} (f : Followed t 0 0 made
   body_length : length (encode t) ≡ 1 + 3 * n
   unfolding encode
   body_length = let i = nodes_length 0 t in omega (arith, f.nodes_are)
-
-pub body_short : {made out : List ℕ} {n : ℕ} → length out < 1 + 3 * n → BodyWritten made n out (Err (Refused OutputShort)) out
-body_short l = record { wrote = λ u. absurd (omega arith); short = λ u. (refl, refl) }
-
-pub body_wrote : {made out out' : List ℕ} {n : ℕ} → 1 + 3 * n ≤ length out → out' ≡ (n ∷ drop 1 (take (1 + 3 * n) made)) ++ drop (1 + 3 * n) out
-    → BodyWritten made n out (Ok (1 + 3 * n)) out'
-body_wrote l q = record { wrote = λ u. (refl, q); short = λ u. absurd (omega arith) }
 
 module _ {r p : List ℕ} (h : Readable r p) where
   pub here_whole : length p ≤ 189 → {seconds : List ℕ} → length seconds ≡ 189 → PartHere p 1 seconds

@@ -11,10 +11,9 @@ use Rattle.patterns.specs.Patterns.{Pattern}
 use Rattle.patterns.specs.Translation.{before}
 use Rattle.patterns.specs.Internal.SecondParts.{PartAt, Noted}
 use Rattle.patterns.specs.Internal.Nodes.{Making, modal_fields, with_node, Progressed}
-use Rattle.patterns.specs.Internal.Putting.{every_of, Follows, PartRequires, PartPut, AfterRequires, AfterPut}
+use Rattle.patterns.specs.Internal.Putting.{every_of, Follows, PartRequires, PartPut, AfterPut}
 use Rattle.patterns.specs.Internal.Nodes.{Progress, Exceeded}
 use Rattle.patterns.proofs.Steps.Parts.{part_some, part_inside, by_action, by_sequence}
-use Rattle.patterns.proofs.Steps.Patching.{with_node_length}
 use Rattle.patterns.proofs.Steps.Growing.{full_exceeded, grow_modal}
 use Rattle.patterns.proofs.Steps.Follow.{follows_first_lem}
 
@@ -78,16 +77,6 @@ module _ {r p seconds slots : List ℕ} {at after n b : ℕ} {out : List ℕ} (h
   -- ---- an action: a modality over what follows
 
   module _ (o : byte p at ≡ 0) (l : n < 64) {out₁ : List ℕ} (e : out₁ ≡ with_node out n (modal_fields (every_of p) n (byte p (at + 1)))) where
-    pub call_action : AfterRequires r p seconds slots after (n + 1) b out₁
-    call_action = record {
-      making = making_on h.making (n + 1) b (ap length e ∙ with_node_length out n (modal_fields (every_of p) n (byte p (at + 1)))) (omega arith) h.making.few_binders;
-      short = h.short;
-      room = h.room;
-      floor = h.end;
-      next = h.next;
-      follows = h.follows;
-    }
-
     pub put_action : {slots' out' : List ℕ} {x : Progress} → AfterPut r p seconds slots slots' after (n + 1) b out₁ out' x
         → PartPut r p seconds slots slots' at after n b out out' x
     unfolding before

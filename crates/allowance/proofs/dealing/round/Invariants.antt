@@ -1,11 +1,6 @@
--- `allowance::dealing::round` meets its contract. Of the loop: what is left of the round.
-use Prim.Native.Nat.{◌+◌, ◌-◌}
-use lib.ListN.{length}
-use Rattle.allowance.proofs.Steps.Dealing.{RoundLeft}
+-- What is left of the round.
+use Rattle.allowance.proofs.Steps.Dealing.{RoundOf}
 use Rattle.allowance.proofs.dealing.round.Given as goal
 
-abbrev pub invariant-loop-i : goal.invariant-loop-i
-invariant-loop-i l = RoundLeft l.needs l.initial.grants l.visits l.grants l.left l.i
-
-abbrev pub decreases-loop-i : goal.decreases-loop-i
-decreases-loop-i l = length l.needs - l.i + l.left
+abbrev pub invariant-loop-bench : goal.invariant-loop-bench
+invariant-loop-bench l = RoundOf l.fn.benches l.visits l.benches l.left l.bench-index

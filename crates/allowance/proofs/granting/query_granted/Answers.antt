@@ -1,104 +1,43 @@
 use native.Mathlib.Omega.{arith}
 use borrow.Author.Rules.{rules}
+use Prim.Native.Nat.{ℕ, ◌+◌}
+use mathlib.Core.List.{List}
+use mathlib.Core.Path.{◌≡◌, refl, sym, subst₂}
+use Rattle.allowance.specs.declared.Bench.{Bench}
 use Rattle.allowance.proofs.Steps.Tables.{place_fits}
-use Rattle.allowance.proofs.Steps.Granting.{going_start, need_each, judged_each, room_now}
-use Rattle.allowance.proofs.Steps.Granting.{turn_short, turn_idle, turn_queried, going_end}
+use Rattle.allowance.proofs.Steps.Granting.{Going, going_start, bench_each, room_now, turn_short, turn_idle, turn_queried, going_end}
+use Rattle.allowance.specs.Internal.Benches.{grants_in}
 use Rattle.allowance.proofs.granting.query_granted.Goals as goal
+use Rattle.allowance.proofs.granting.query_granted.Goals.{Joined-bench, then-bench, else-bench+then-bench-eq0, else-bench+else-bench-eq0}
+
+told : (c : Joined-bench) {benches : List Bench} {tables : List ℕ} → c.if-bench.benches ≡ benches → c.if-bench.tables ≡ tables
+    → Going c.args.sheet.now c.args.states.now c.args.tables.now (grants_in c.args.benches.now) c.args.benches.now benches tables (c.loop-i.i + 1)
+    → Going c.args.sheet.now c.args.states.now c.args.tables.now (grants_in c.args.benches.now) c.args.benches.now c.if-bench.benches c.if-bench.tables (c.loop-i.i + 1)
+told c e f =
+    subst₂ (λ (b : List Bench) (t : List ℕ). Going c.args.sheet.now c.args.states.now c.args.tables.now (grants_in c.args.benches.now) c.args.benches.now b t (c.loop-i.i + 1))
+    (sym e) (sym f)
 
 pub loop-i-init : goal.loop-i-init
 loop-i-init c =
-    let a = c.args in
-    going_start a.sheet.now a.states.now a.tables.now a.grants.now c.no_benches-benches.ensures
-
-pub bounds-grants-i : goal.bounds-grants-i
-bounds-grants-i c = let p = c.requires in omega (arith, need_each p, p.grant_each)
-
-pub bounds-needs-i : goal.bounds-needs-i
-bounds-needs-i c = let p = c.requires in omega (arith, need_each p, p.grant_each)
-
-pub bounds-needs-i-then-grants-i : goal.bounds-needs-i-then-grants-i
-bounds-needs-i-then-grants-i c =
-    let p = c.requires in
-    omega (arith, need_each p)
-
-pub bounds-grants-i-then-grants-i : goal.bounds-grants-i-then-grants-i
-bounds-grants-i-then-grants-i c =
-    let p = c.requires in
-    omega (arith, p.grant_each)
-
-pub bounds-benches-i : goal.bounds-benches-i
-bounds-benches-i c =
-    let p = c.requires in
-    omega (arith, p.right.few)
-
-pub loop-i-preserved-then-grants-i : goal.loop-i-preserved-then-grants-i
-loop-i-preserved-then-grants-i c =
-    let p = c.requires in
-    let w = c.loop-i.invariant in
-    turn_short p w c.loop-i-test.true c.short_bench.ensures (omega (arith, c.if-grants-i.true))
-
-pub bounds-needs-i-in-loop-i : goal.bounds-needs-i-in-loop-i
-bounds-needs-i-in-loop-i c =
-    let p = c.requires in
-    omega (arith, need_each p)
-
-pub bounds-grants-i-then-needs-i-eq0 : goal.bounds-grants-i-then-needs-i-eq0
-bounds-grants-i-then-needs-i-eq0 c =
-    let p = c.requires in
-    omega (arith, p.grant_each)
-
-pub bounds-verdicts-i : goal.bounds-verdicts-i
-bounds-verdicts-i c =
-    let p = c.requires in
-    omega (arith, judged_each p)
-
-pub bounds-benches-i-then-needs-i-eq0 : goal.bounds-benches-i-then-needs-i-eq0
-bounds-benches-i-then-needs-i-eq0 c =
-    let p = c.requires in
-    omega (arith, p.right.few)
-
-pub loop-i-preserved-then-needs-i-eq0 : goal.loop-i-preserved-then-needs-i-eq0
-loop-i-preserved-then-needs-i-eq0 c =
-    let p = c.requires in
-    let w = c.loop-i.invariant in
-    turn_idle p w c.loop-i-test.true (record { at = λ k. search rules }) c.idle_bench.ensures (omega (arith, c.if-needs-i-eq0.true))
+    going_start c.args.sheet.now c.args.states.now c.args.tables.now (grants_in c.args.benches.now) c.args.benches.now (bench_each c.requires)
 
 pub overflow_mul-i : goal.overflow_mul-i
-overflow_mul-i c =
-    let p = c.requires in
-    let w = c.loop-i in
-    omega (arith, place_fits p.right p.sized w.i c.loop-i-test.true)
+overflow_mul-i c = omega (arith, place_fits c.requires.right c.requires.sized c.loop-i.i (omega arith))
 
 pub query_at-answer-requires : goal.query_at-answer-requires
-query_at-answer-requires c =
-    let p = c.requires in
-    let w = c.loop-i.invariant in
-    room_now p w c.loop-i-test.true
-
-pub bounds-needs-i-in-loop-i-2 : goal.bounds-needs-i-in-loop-i-2
-bounds-needs-i-in-loop-i-2 c =
-    let p = c.requires in
-    omega (arith, need_each p)
-
-pub bounds-grants-i-in-loop-i : goal.bounds-grants-i-in-loop-i
-bounds-grants-i-in-loop-i c =
-    let p = c.requires in
-    omega (arith, p.grant_each)
-
-pub bounds-benches-i-in-loop-i : goal.bounds-benches-i-in-loop-i
-bounds-benches-i-in-loop-i c =
-    let p = c.requires in
-    omega (arith, p.right.few)
+query_at-answer-requires c = room_now c.requires c.loop-i.invariant (omega arith)
 
 pub loop-i-preserved : goal.loop-i-preserved
-loop-i-preserved c =
-    let p = c.requires in
-    let w = c.loop-i.invariant in
-    let h = c.loop-i-test.true in
-    let q = c.query_at-answer.ensures in
-    turn_queried p w h q.value c.queried_bench.ensures (omega (arith, c.if-grants-i.false)) q.tables_after
+loop-i-preserved c = elim c.if-bench.branch [
+  | then-bench w ↦ told c w.benches-is w.tables-is (turn_short c.requires c.loop-i.invariant (omega arith) refl w.short.ensures w.if-bench.true)
+  | else-bench+then-bench-eq0 w ↦
+      told c w.benches-is w.tables-is
+      (turn_idle c.requires c.loop-i.invariant (omega arith) refl (record { at = λ k. search rules }) w.idle.ensures w.if-bench-eq0.true)
+  | else-bench+else-bench-eq0 w ↦
+      told c w.benches-is w.tables-is
+      (turn_queried c.requires c.loop-i.invariant (omega arith) refl w.query_at-answer.ensures.value w.queried.ensures w.if-bench.false
+      w.query_at-answer.ensures.tables_after)
+]
 
 pub returns : goal.returns
-returns c =
-    let a = c.args in
-    going_end a.sheet.now a.states.now a.tables.now a.grants.now c.loop-i.invariant (omega arith)
+returns c = going_end c.args.sheet.now c.args.states.now c.args.tables.now (grants_in c.args.benches.now) c.args.benches.now c.loop-i.invariant (omega arith)

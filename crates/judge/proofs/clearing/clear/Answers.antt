@@ -1,5 +1,5 @@
 -- `judge::clearing::clear` meets its contract.
-use Rattle.std.proofs.Common.{ℕ, ◌++◌, drop, replicate, sym, ap, ◌∙◌, arith}
+use Rattle.std.proofs.Common.{◌≡◌, ℕ, List, length-take-le, ◌++◌, drop, replicate, sym, ap, ◌∙◌, arith}
 use Rattle.std.proofs.lemmas.Result.{err_from_is_err_and}
 use Rattle.judge.specs.Cells.{table_bytes_for}
 use Rattle.judge.proofs.Steps.ClearSteps.{clears_refused, clears_short, clears_done}
@@ -17,6 +17,10 @@ returns-then-table-size c =
 
 pub returns : goal.returns
 returns c =
+    let t = c.args.table.now in
+    let held = c.table_bytes_for-size.result in
     let size = c.table_bytes_for-size.ensures ∙ ap table_bytes_for c.cell_bytes-cells.ensures.0 in
-    clears_done c.args.sheet.now c.args.table.now (sym c.in_ok-check.ensures.value) (omega (arith, size)) _
-    (c.zero.ensures ∙ ap (λ (k : ℕ). replicate k 0 ++ drop k c.args.table.now) size)
+    let zeros : c.fill.new.self ≡ replicate held 0 =
+    c.fill.ensures.after (λ y e. e) ∙ ap (λ (k : ℕ). replicate k 0) (length-take-le held t (omega arith)) in
+    clears_done c.args.sheet.now t (sym c.in_ok-check.ensures.value) (omega (arith, size)) _
+    (ap (λ (l : List ℕ). l ++ drop held t) zeros ∙ ap (λ (k : ℕ). replicate k 0 ++ drop k t) size)

@@ -1,45 +1,37 @@
 -- `judge::querying::judge_prepared` meets its contract.
-use Rattle.std.proofs.Common.{◌≤◌, length, sym, ap, ◌∙◌, arith, length-take-le}
-use Rattle.judge.specs.Cells.{table_bytes}
-use Rattle.judge.specs.StoredCount.{number_at}
-use Rattle.judge.proofs.Steps.QueryAnswers.{answers_short, answers_bad_byte, answers_miscounted, told_over, told_filled, count_told}
+use Rattle.std.proofs.Common.{sym, arith, length-take-le}
+use Rattle.std.proofs.lemmas.Result.{err_from_is_err_and}
+use Rattle.judge.proofs.Steps.QueryAnswers.{answers_turned_down, root_decidable, count_fits, answers_judged}
+use Rattle.judge.proofs.Steps.RightCount.{Taken, taken_when, turned_down}
 use Rattle.judge.proofs.querying.judge_prepared.Goals as goal
+use Rattle.judge.proofs.querying.judge_prepared.Goals.{In_ok-stored}
 
-pub returns-then-table-table_bytes_for : goal.returns-then-table-table_bytes_for
-returns-then-table-table_bytes_for c = let start = c in
-    answers_short start.requires start.args.table.now (omega (arith, c.cell_bytes_prepared-cells.ensures.0, c.table_bytes_for.ensures))
+-- the query takes the table
+module _ (c : In_ok-stored) where
+  taken : Taken c.args.sheet.now c.args.table.now c.cell_bytes_prepared-cells.result c.in_ok-stored.stored
+  taken = taken_when c.args.sheet.now c.args.table.now c.cell_bytes_prepared-cells.ensures.0 c.in_ok-stored.ensures
 
-pub slice_bounds-scan-end-2 : goal.slice_bounds-scan-end-2
-slice_bounds-scan-end-2 c = sym (length-take-le _ _ (omega (arith, c.table_bytes_for.ensures, c.if-table-table_bytes_for.false)))
+pub returns-in_err-stored : goal.returns-in_err-stored
+returns-in_err-stored c =
+    let p = err_from_is_err_and c.from_residual.result c.from_residual.ensures.1 in
+    rw (p.1, p.2) (answers_turned_down c.requires c.args.table.now (turned_down c.args.sheet.now c.args.table.now c.cell_bytes_prepared-cells.ensures.0 c.in_err-stored.ensures))
 
-pub returns-then-expected-filled : goal.returns-then-expected-filled
-returns-then-expected-filled c = let start = c in
-    let size = c.cell_bytes_prepared-cells.ensures.0 in
-    let long : table_bytes start.args.sheet.now ≤ length start.args.table.now = omega (arith, size, c.table_bytes_for.ensures, c.if-table-table_bytes_for.false) in
-    let t = start.args.table.now in
-    let told = told_filled start.args.sheet.now t long _ c.scan-scanned.ensures size c.in-Filled.is in
-    answers_miscounted start.requires t long told.0
-    (λ e. omega (arith, c.wide_u32-expected.ensures, c.number_at-stored.ensures, ap (number_at t) size, e, told.1))
+pub slice_bounds-decide-end : goal.slice_bounds-decide-end
+slice_bounds-decide-end c = let k = taken (goal.at.slice_bounds-decide-end c).In_ok-stored in omega (arith, k.cells_are, k.long)
 
-pub judge_table-requires : goal.judge_table-requires
-judge_table-requires c = let start = c in
-    let size = c.cell_bytes_prepared-cells.ensures.0 in
-    let long : table_bytes start.args.sheet.now ≤ length start.args.table.now = omega (arith, size, c.table_bytes_for.ensures, c.if-table-table_bytes_for.false) in
-    let t = start.args.table.now in
-    let told = told_filled start.args.sheet.now t long _ c.scan-scanned.ensures size c.in-Filled.is in
-    let stored = c.number_at-stored.ensures ∙ ap (number_at t) size in
-    record {
-      query = start.requires;
-      cells_are = size;
-      long = long;
-      bytes_right_holds = told.0;
-      stored_is = stored;
-      count_right_holds = count_told start.args.sheet.now t long (omega (arith, stored, c.wide_u32-expected.ensures, told.1));
-    }
+pub put_number-requires : goal.put_number-requires
+put_number-requires c = let k = taken (goal.at.put_number-requires c).In_ok-stored in omega (arith, k.cells_are, k.long)
 
-pub returns-in-ByteOver : goal.returns-in-ByteOver
-returns-in-ByteOver c = let start = c in
-    let size = c.cell_bytes_prepared-cells.ensures.0 in
-    let long : table_bytes start.args.sheet.now ≤ length start.args.table.now = omega (arith, size, c.table_bytes_for.ensures, c.if-table-table_bytes_for.false) in
-    let t = start.args.table.now in
-    answers_bad_byte start.requires t long (told_over start.args.sheet.now t long _ c.scan-scanned.ensures size c.in-ByteOver.is)
+pub slice_bounds-decide-end-2 : goal.slice_bounds-decide-end-2
+slice_bounds-decide-end-2 c = let k = taken (goal.at.slice_bounds-decide-end-2 c).In_ok-stored in sym (length-take-le _ _ (omega (arith, k.cells_are, k.long)))
+
+pub decide-w-requires : goal.decide-w-requires
+decide-w-requires c = root_decidable c.requires (taken (goal.at.decide-w-requires c).In_ok-stored)
+
+pub overflow_add-count : goal.overflow_add-count
+overflow_add-count c =
+    omega (arith, count_fits c.requires (taken (goal.at.overflow_add-count c).In_ok-stored) _ _ _ c.decide-w.ensures c.visits_of-visits.ensures)
+
+pub returns : goal.returns
+returns c =
+    answers_judged c.requires (taken (goal.at.returns c).In_ok-stored) _ _ _ _ _ c.decide-w.ensures c.is_true.ensures c.visits_of-visits.ensures c.put_number.ensures

@@ -1,42 +1,32 @@
-use Rattle.std.proofs.Common.{ℕ, ◌+◌, ◌-◌, length, sym, subst, arith}
-use Rattle.judge.proofs.Steps.ScanSteps.{Scanning, scan_start, scan_next, scan_bound, scan_over, scan_end}
+use Rattle.std.proofs.Common.{◌+◌, length, ◌∙◌, arith}
+use Rattle.std.proofs.lemmas.Result.{err_from_is_err_and}
+use Rattle.judge.proofs.Steps.ScanSteps.{scan_over, passed_none, passed_over, passed_more, passed_few, passed_all, passed_told}
 use Rattle.judge.proofs.scanning.scan.Goals as goal
 
-pub loop-at-init : goal.loop-at-init
-loop-at-init c = scan_start _
+pub loop-block-init : goal.loop-block-init
+loop-block-init c = record {
+  size = cc;
+  at = 0;
+  passed = rw (c.into_iter-block-iterator.ensures.into_iter_gives, c.chunks-block-items.ensures.rest) (passed_none c.args.cells.now);
+}
 
-pub overflow_sub-size : goal.overflow_sub-size
-overflow_sub-size c = c.loop-at.invariant.inside
+pub returns-in_err-scan_block : goal.returns-in_err-scan_block
+returns-in_err-scan_block c =
+    let p = err_from_is_err_and c.from_residual.result c.from_residual.ensures.1 in
+    let b = passed_over c.loop-block.invariant.passed c.in-Some.block.now c.next.new.self.rest.now c.in-Some.ensures.steps.1.0 c.in_err-scan_block.ensures in
+    rw (p.1, p.2, b.0) (scan_over c.args.cells.now b.1.0 b.1.1 b.1.2)
 
-pub scan_block-block-requires : goal.scan_block-block-requires
-scan_block-block-requires c = (omega arith, omega arith)
+pub overflow_add-filled : goal.overflow_add-filled
+overflow_add-filled c =
+    let more = passed_more c.loop-block.invariant.passed c.in-Some.block.now c.next.new.self.rest.now c.in-Some.ensures.steps.1.0 c.in_ok-scan_block.ensures in
+    omega (arith, passed_few more, c.from.ensures)
 
-pub returns-then-block-ne0 : goal.returns-then-block-ne0
-returns-then-block-ne0 c = let l = c.loop-at in scan_over _ l.at 224 _ _ (omega arith) c.scan_block-block.ensures c.if-block-ne0.true
-
-pub overflow_add-total : goal.overflow_add-total
-overflow_add-total c = let l = c.loop-at in omega (arith, scan_bound _ _ _ l.invariant)
-
-pub loop-at-preserved : goal.loop-at-preserved
-loop-at-preserved c = let l = c.loop-at in
-    subst (λ (k : ℕ). Scanning c.args.bytes.now (l.at + 224) (l.total + k)) (sym c.wide-total.ensures.0)
-    (scan_next _ l.at l.total 224 _ _ l.invariant (omega arith) c.scan_block-block.ensures c.if-block-ne0.false)
-
-pub overflow_sub-size-2 : goal.overflow_sub-size-2
-overflow_sub-size-2 c = c.loop-at.invariant.inside
-
-pub scan_block-last-requires : goal.scan_block-last-requires
-scan_block-last-requires c = (omega arith, omega arith)
-
-pub returns-then-last-ne0 : goal.returns-then-last-ne0
-returns-then-last-ne0 c = let l = c.loop-at in scan_over _ l.at _ _ _ (omega arith) c.scan_block-last.ensures c.if-last-ne0.true
-
-pub overflow_add-result : goal.overflow_add-result
-overflow_add-result c = let l = c.loop-at in omega (arith, scan_bound _ _ _ l.invariant)
+pub loop-block-preserved : goal.loop-block-preserved
+loop-block-preserved c = record {
+  size = c.in-Some.ensures.steps.0 ∙ c.loop-block.invariant.size;
+  at = c.loop-block.invariant.at + length c.in-Some.block.now;
+  passed = rw c.from.ensures (passed_more c.loop-block.invariant.passed c.in-Some.block.now c.next.new.self.rest.now c.in-Some.ensures.steps.1.0 c.in_ok-scan_block.ensures);
+}
 
 pub returns : goal.returns
-returns c = let l = c.loop-at in
-    let bytes = c.args.bytes.now in
-    let rest = length bytes - l.at in
-    scan_end bytes (l.at + rest) _ (subst (λ (k : ℕ). Scanning bytes (l.at + rest) (l.total + k)) (sym c.wide.ensures.0)
-    (scan_next bytes l.at l.total rest _ _ l.invariant (omega arith) c.scan_block-last.ensures c.if-last-ne0.false)) (omega arith)
+returns c = let w = c.loop-block.invariant.passed in passed_told w (passed_all w c.in-None.ensures.steps.1.0)

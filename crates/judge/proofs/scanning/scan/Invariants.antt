@@ -1,10 +1,7 @@
--- `judge::scanning::scan` meets its contract. Of the loop: what the cells before a place tell.
-use Rattle.std.proofs.Common.{◌-◌}
-use Rattle.judge.proofs.Steps.ScanSteps.{Scanning}
+-- `judge::scanning::scan` meets its contract. Of the loop: what the blocks so far tell.
+use Rattle.std.proofs.Common.{◌≡◌, ℕ}
+use Rattle.judge.proofs.Steps.ScanSteps.{Passed}
 use Rattle.judge.proofs.scanning.scan.Given as goal
 
-abbrev pub invariant-loop-at : goal.invariant-loop-at
-invariant-loop-at l = Scanning l.bytes l.at l.total
-
-abbrev pub decreases-loop-at : goal.decreases-loop-at
-decreases-loop-at l = l.size - l.at
+abbrev pub invariant-loop-block : goal.invariant-loop-block
+invariant-loop-block l = record { size : l.block-iterator.size ≡ 224; at : ℕ; passed : Passed l.cells l.block-iterator.rest.now at l.filled }

@@ -1,10 +1,6 @@
--- `judge::scanning::scan_block` meets its contract. Of the loop: what the bytes before i tell.
-use Rattle.std.proofs.Common.{◌-◌, ◌≤◌}
-use Rattle.judge.specs.Internal.Scanning.{BlockScanned}
+-- `judge::scanning::scan_block` meets its contract. Of the loop: what the bytes so far tell.
+use Rattle.judge.proofs.Steps.ScanSteps.{BlockTo}
 use Rattle.judge.proofs.scanning.scan_block.Given as goal
 
-abbrev pub invariant-loop-i : goal.invariant-loop-i
-invariant-loop-i l = (l.i ≤ l.size) × BlockScanned l.bytes l.start l.i l.over l.filled
-
-abbrev pub decreases-loop-i : goal.decreases-loop-i
-decreases-loop-i l = l.size - l.i
+abbrev pub invariant-loop-byte : goal.invariant-loop-byte
+invariant-loop-byte l = BlockTo l.block l.byte-index l.over l.filled

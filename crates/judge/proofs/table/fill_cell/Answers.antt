@@ -2,9 +2,13 @@
 use Rattle.std.proofs.Common.{set, sym, ap, ◌∙◌}
 use Rattle.judge.proofs.Steps.PackedVerdicts.{cell_filled, true_byte, false_byte}
 use Rattle.judge.proofs.table.fill_cell.Goals as goal
-
-pub returns-then-is_true : goal.returns-then-is_true
-returns-then-is_true c = let a = c.args in record { one_visit_more = cell_filled _; table_after = ap (set a.table.now a.at) (true_byte a.w (sym c.is_true.ensures ∙ c.if-is_true.true)) }
+use Rattle.judge.proofs.table.fill_cell.Goals.{then-is_true, else-is_true}
 
 pub returns : goal.returns
-returns c = let a = c.args in record { one_visit_more = cell_filled _; table_after = ap (set a.table.now a.at) (false_byte a.w (sym c.is_true.ensures ∙ c.if-is_true.false)) }
+returns c = record {
+  one_visit_more = cell_filled _;
+  table_after = ap (set c.args.table.now c.args.at) (elim c.if-is_true.branch [
+    | then-is_true w ↦ w.table-is ∙ true_byte c.args.w (sym c.is_true.ensures ∙ w.if-is_true.true)
+    | else-is_true w ↦ w.table-is ∙ false_byte c.args.w (sym c.is_true.ensures ∙ w.if-is_true.false)
+  ]);
+}

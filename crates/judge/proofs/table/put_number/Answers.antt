@@ -1,16 +1,12 @@
 -- `judge::table::put_number` meets its contract.
-use Rattle.std.proofs.Common.{arith, length-set}
-use Rattle.judge.proofs.Steps.CountSteps.{stores_four}
+use Rattle.std.proofs.Common.{◌≡◌, ℕ, ◌+◌, ◌-◌, ◌%◌, ◌/◌, List, ◌∷◌, ◌++◌, take, drop, drop-drop, ap, ◌∙◌, arith}
 use Rattle.judge.proofs.table.put_number.Goals as goal
 
-pub bounds-table-at-2 : goal.bounds-table-at-2
-bounds-table-at-2 c = simp length-set (omega arith)
-
-pub bounds-table-at-3 : goal.bounds-table-at-3
-bounds-table-at-3 c = simp length-set (omega arith)
-
-pub bounds-table-at-4 : goal.bounds-table-at-4
-bounds-table-at-4 c = simp length-set (omega arith)
-
 pub returns : goal.returns
-returns c = stores_four c.args.table.now c.args.at _ _ _ _ (omega arith)
+returns c =
+    let at = c.args.at in
+    let n = c.args.n in
+    let t = c.args.table.now in
+    let four : at + 4 - at ≡ 4 = omega arith in
+    rw (c.copy_from_slice.ensures.after, c.to_le_bytes.ensures)
+    (ap (λ (l : List ℕ). take at t ++ (n % 256 ∷ n / 256 % 256 ∷ n / 65536 % 256 ∷ n / 16777216 % 256 ∷ l)) (ap (λ (k : ℕ). drop k (drop at t)) four ∙ drop-drop 4 at t))

@@ -1,53 +1,40 @@
 -- `judge::turns::walk_prepared` meets its contract.
-use Rattle.std.proofs.Common.{◌≤◌, length, sym, ap, ◌∙◌, arith, length-take-le}
-use Rattle.judge.specs.Cells.{table_bytes}
-use Rattle.judge.specs.StoredCount.{number_at}
-use Rattle.judge.proofs.Steps.QueryAnswers.{told_over, told_filled, count_told}
-use Rattle.judge.proofs.Steps.TurnAnswers.{states_taken, in_turn_short, in_turn_bad_byte, in_turn_miscounted}
+use Rattle.std.proofs.Common.{sym, arith, length-take-le}
+use Rattle.std.proofs.lemmas.Result.{err_from_is_err_and}
+use Rattle.judge.proofs.Steps.RightCount.{Taken, taken_when, turned_down}
+use Rattle.judge.proofs.Steps.TurnAnswers.{states_taken, in_turn_turned_down, walk_asked, turns_fit, in_turn_judged}
 use Rattle.judge.proofs.turns.walk_prepared.Goals as goal
+use Rattle.judge.proofs.turns.walk_prepared.Goals.{In_ok-stored}
 
-pub returns-then-table-table_bytes_for : goal.returns-then-table-table_bytes_for
-returns-then-table-table_bytes_for c =
-    let start = c in
-    in_turn_short (states_taken start.requires) start.args.table.now (omega (arith, c.cell_bytes_prepared-cells.ensures.0, c.table_bytes_for.ensures))
+-- the queries take the table
+module _ (c : In_ok-stored) where
+  taken : Taken c.args.sheet.now c.args.table.now c.cell_bytes_prepared-cells.result c.in_ok-stored.stored
+  taken = taken_when c.args.sheet.now c.args.table.now c.cell_bytes_prepared-cells.ensures.0 c.in_ok-stored.ensures
 
-pub slice_bounds-scan-end-2 : goal.slice_bounds-scan-end-2
-slice_bounds-scan-end-2 c = sym (length-take-le _ _ (omega (arith, c.table_bytes_for.ensures, c.if-table-table_bytes_for.false)))
+pub returns-in_err-stored : goal.returns-in_err-stored
+returns-in_err-stored c =
+    let p = err_from_is_err_and c.from_residual.result c.from_residual.ensures.1 in
+    rw (p.1, p.2)
+    (in_turn_turned_down (states_taken c.requires) c.args.table.now (turned_down c.args.sheet.now c.args.table.now c.cell_bytes_prepared-cells.ensures.0 c.in_err-stored.ensures))
 
-pub returns-then-expected-filled : goal.returns-then-expected-filled
-returns-then-expected-filled c =
-    let start = c in
-    let s = start.args.sheet.now in
-    let t = start.args.table.now in
-    let size = c.cell_bytes_prepared-cells.ensures.0 in
-    let long : table_bytes s ≤ length t = omega (arith, size, c.table_bytes_for.ensures, c.if-table-table_bytes_for.false) in
-    let told = told_filled s t long _ c.scan-scanned.ensures size c.in-Filled.is in
-    in_turn_miscounted (states_taken start.requires) t long told.0
-    (λ e. c.if-expected-filled.true (c.wide_u32-expected.ensures ∙ c.number_at-stored.ensures ∙ ap (number_at t) size ∙ e ∙ sym told.1))
+pub slice_bounds-walk_states-end : goal.slice_bounds-walk_states-end
+slice_bounds-walk_states-end c = let k = taken (goal.at.slice_bounds-walk_states-end c).In_ok-stored in omega (arith, k.cells_are, k.long)
 
-pub walk_table-requires : goal.walk_table-requires
-walk_table-requires c =
-    let start = c in
-    let s = start.args.sheet.now in
-    let t = start.args.table.now in
-    let size = c.cell_bytes_prepared-cells.ensures.0 in
-    let long : table_bytes s ≤ length t = omega (arith, size, c.table_bytes_for.ensures, c.if-table-table_bytes_for.false) in
-    let told = told_filled s t long _ c.scan-scanned.ensures size c.in-Filled.is in
-    let stored = c.number_at-stored.ensures ∙ ap (number_at t) size in
-    record {
-      prepared = start.requires;
-      cells_are = size;
-      long = long;
-      bytes_right_holds = told.0;
-      stored_is = stored;
-      count_right_holds = count_told s t long (omega (arith, stored, c.wide_u32-expected.ensures, told.1, c.if-expected-filled.false));
-    }
+pub put_number-requires : goal.put_number-requires
+put_number-requires c = let k = taken (goal.at.put_number-requires c).In_ok-stored in omega (arith, k.cells_are, k.long)
 
-pub returns-in-ByteOver : goal.returns-in-ByteOver
-returns-in-ByteOver c =
-    let start = c in
-    let s = start.args.sheet.now in
-    let t = start.args.table.now in
-    let size = c.cell_bytes_prepared-cells.ensures.0 in
-    let long : table_bytes s ≤ length t = omega (arith, size, c.table_bytes_for.ensures, c.if-table-table_bytes_for.false) in
-    in_turn_bad_byte (states_taken start.requires) t long (told_over s t long _ c.scan-scanned.ensures size c.in-ByteOver.is)
+pub slice_bounds-walk_states-end-2 : goal.slice_bounds-walk_states-end-2
+slice_bounds-walk_states-end-2 c =
+    let k = taken (goal.at.slice_bounds-walk_states-end-2 c).In_ok-stored in sym (length-take-le _ _ (omega (arith, k.cells_are, k.long)))
+
+pub walk_states-walked-requires : goal.walk_states-walked-requires
+walk_states-walked-requires c = walk_asked c.requires (taken (goal.at.walk_states-walked-requires c).In_ok-stored)
+
+pub overflow_cast-count : goal.overflow_cast-count
+overflow_cast-count c = omega (arith, turns_fit c.requires (taken (goal.at.overflow_cast-count c).In_ok-stored) c.walk_states-walked.ensures)
+
+pub overflow_add-count : goal.overflow_add-count
+overflow_add-count c = omega (arith, turns_fit c.requires (taken (goal.at.overflow_add-count c).In_ok-stored) c.walk_states-walked.ensures)
+
+pub returns : goal.returns
+returns c = in_turn_judged c.requires (taken (goal.at.returns c).In_ok-stored) c.walk_states-walked.ensures _ c.put_number.ensures

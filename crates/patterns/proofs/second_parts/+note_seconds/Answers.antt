@@ -4,18 +4,6 @@ use Rattle.patterns.proofs.Steps.SecondSteps.{here_place, noted_action, here_one
 use Rattle.patterns.proofs.Steps.SecondSteps.{here_first, here_second, first_bounds, noted_two}
 use Rattle.patterns.proofs.second_parts.+note_seconds.Goals as goal
 
-pub bounds-pattern-at : goal.bounds-pattern-at
-bounds-pattern-at t c =
-    omega (arith, here_place c.requires)
-
-pub overflow_add-result : goal.overflow_add-result
-overflow_add-result t c =
-    omega (arith, here_place c.requires, c.requires.short)
-
-pub overflow_add-at : goal.overflow_add-at
-overflow_add-at t c =
-    omega (arith, here_place c.requires, c.requires.short)
-
 pub note_seconds-second-requires : goal.note_seconds-second-requires
 note_seconds-second-requires t c =
     (omega (arith, here_place c.requires), here_first c.requires (omega arith) (omega arith))
@@ -24,19 +12,11 @@ pub overflow_cast-seconds : goal.overflow_cast-seconds
 overflow_cast-seconds t c =
     omega (arith, c.requires.short, first_bounds c.requires (omega arith) (omega arith) c.note_seconds-second.ensures)
 
-pub bounds-seconds-at : goal.bounds-seconds-at
-bounds-seconds-at t c =
-    omega (arith, c.requires.short, here_place c.requires)
-
 pub note_seconds-requires : goal.note_seconds-requires
 note_seconds-requires t c = (
   omega (arith, first_bounds c.requires (omega arith) (omega arith) c.note_seconds-second.ensures),
   here_second c.requires (omega arith) (omega arith) c.note_seconds-second.ensures,
 )
-
-pub overflow_add-at-in_default : goal.overflow_add-at-in_default
-overflow_add-at-in_default t c =
-    omega (arith, here_place c.requires, c.requires.short)
 
 pub note_seconds-requires-in_default : goal.note_seconds-requires-in_default
 note_seconds-requires-in_default t c =

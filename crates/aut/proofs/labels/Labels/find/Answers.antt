@@ -3,16 +3,13 @@ use Rattle.aut.specs.Plans.{label_number}
 use Rattle.aut.proofs.Steps.HeldLabels.{number_found, hint_right}
 use Rattle.aut.proofs.labels.Labels.find.Goals as goal
 
-pub returns-then-is_held : goal.returns-then-is_held
-returns-then-is_held c =
+pub returns-then-is : goal.returns-then-is
+returns-then-is c =
     let a = c.args in
     let i = c.self.inside in
     hint_right a.label.now a.sum c.requires i.held i.count c.self.invariant a.hint _ c.if-hint-self.true
-    (sym c.is_held.ensures ∙ c.if-is_held.true)
+    (sym c.is.ensures ∙ c.if-is.true)
     ∙ ap (label_number a.label.now) c.self.view_is
-
-pub slice_bounds-search-end : goal.slice_bounds-search-end
-slice_bounds-search-end c = omega (arith, c.self.invariant.array, c.self.invariant.within)
 
 pub returns : goal.returns
 returns c =
