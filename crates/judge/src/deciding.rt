@@ -13,6 +13,7 @@ use crate::marks::{is_outer, opening};
 use crate::packed::{add_visits, decides, packed_constant};
 use crate::table::{cell_position, fill_cell, known_verdict};
 use calculus::meeting::has_bit;
+use sheet::kinds::NodeKind;
 use sheet::{Node, State, Variable};
 
 // Decides a cell: looks it up, or decides its row in order and fills it.
@@ -34,13 +35,16 @@ pub(crate) fn decide(
         return known_verdict(filled);
     }
     let k = kind_of(sheet, index, node);
-    match k {
-        0 => fill_cell(table, at, 0),
-        1 => fill_cell(table, at, 1),
-        2..=3 => {
+    let Ok(kind) = NodeKind::try_from(k) else {
+        return fill_cell(table, at, 0);
+    };
+    match kind {
+        NodeKind::False => fill_cell(table, at, 0),
+        NodeKind::True => fill_cell(table, at, 1),
+        NodeKind::Or | NodeKind::And => {
             let x = x_of(sheet, index, node);
             let first = decide(sheet, index, table, mark, Node(x), state);
-            if decides(k == 2, first) {
+            if decides(kind == NodeKind::Or, first) {
                 return fill_cell(table, at, first);
             }
             let y = y_of(sheet, index, node);
@@ -48,15 +52,15 @@ pub(crate) fn decide(
             let w = add_visits(first, second);
             fill_cell(table, at, w)
         }
-        4 => {
+        NodeKind::Diamond => {
             let w = follow(sheet, index, table, node, state, true);
             fill_cell(table, at, w)
         }
-        5 => {
+        NodeKind::Box => {
             let w = follow(sheet, index, table, node, state, false);
             fill_cell(table, at, w)
         }
-        6 => {
+        NodeKind::Variable => {
             let x = x_of(sheet, index, node);
             let binder = binder_of(index, Variable(x));
             if is_outer(Variable(x), mark) {
@@ -66,14 +70,13 @@ pub(crate) fn decide(
             let w = packed_constant(kind_of(sheet, index, binder) == 8);
             fill_cell(table, at, w)
         }
-        7..=8 => {
+        NodeKind::Least | NodeKind::Greatest => {
             let x = x_of(sheet, index, node);
             let y = y_of(sheet, index, node);
             let inner = opening(Variable(x), mark);
             let w = decide(sheet, index, table, inner, Node(y), state);
             fill_cell(table, at, w)
         }
-        _ => fill_cell(table, at, 0),
     }
 }
 
