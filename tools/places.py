@@ -40,8 +40,13 @@ def functions():
             yield path, m[1], params, m[4]
 
 
+# Enums that are no Option and no Result: what they name is one of several things, or an error.
+PROPER = r"(Refusal|Token|Operator|NodeKind|EntryKind|Failing|Request|Stop|\w+Error)"
+
+
 def point1():
-    return lines(r"^\s*(pub(\(\w+\))? )?enum \w") + lines(r"\b(every|kind|op|or|one): (u8|usize|bool)\b|\bover: u8")
+    own = [x for x in lines(r"^\s*(pub(\(\w+\))? )?enum \w") if not re.search(rf"enum {PROPER}\b", x)]
+    return own + lines(r"\b(every|kind|op|or|one): (u8|usize|bool)\b|\bover: u8|\bmatch (k|op|kind_at\(.*\)) \{|\bmark: u8,$|-> u32 *$.*packed")
 
 
 def point2():
@@ -73,7 +78,13 @@ def point5():
 
 
 def point6():
-    return lines(r"^\s*(pub(\(\w+\))? )?(type \w+ = \[|const \w+_AT: )|let mut \w+(: \w+)? = \[[^\]]*;|let mut \w+ = no_|let mut \w+ = zero_|fn \w+\([^)]*\bat: usize[^)]*out: &mut \[u8\]")
+    buffer = r"^(\w+): &(mut )?(\[|Body|Places|Marks|Queue|Order|Heads|Links|Firsts|Lasts|Index|Buffer)"
+    beside = r"^(at|count|n|waiting|place|known|done|total|cells|end|size|start|length|states|nodes|entries|middle|held): (usize|u8|u16|Counts)$"
+    found = []
+    for path, name, params, _ in functions():
+        if any(re.match(buffer, p) for p in params) and any(re.match(beside, p) for p in params):
+            found.append(f"{path}: {name}")
+    return found + lines(r"^\s*(pub(\(\w+\))? )?(type \w+ = \[|const \w+_AT: )")
 
 
 def point7():

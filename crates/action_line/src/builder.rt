@@ -113,6 +113,7 @@ impl BodyBuilder {
         ensures total { self.new.top + self.new.count ≡ self.old.top + self.old.count }
         ensures depth { self.new.depth ≡ self.old.depth }
     {
+        // A while loop: how many are ended is known only by ending them.
         while self.is_reducible(operator) {
             self.top -= 1;
             let last = self.waiting[self.top];

@@ -93,7 +93,7 @@ pub(crate) struct Tokens<'a> {
 impl<'a> Tokens<'a> {
     ghost use Rattle.action_line.specs.Internal.Lexemes.{tokens_held, tokens_left};
 
-    pub(crate) fn of(line: &'a [u8]) -> Tokens<'a>
+    pub(crate) fn new(line: &'a [u8]) -> Tokens<'a>
         ensures { tokens_left result ≡ tokens_held line.now }
     {
         Tokens { rest: line }

@@ -19,7 +19,7 @@ pub(crate) fn pass_over(
     let mut expected = Expected::Operand(0);
     let mut known = true;
     let mut entries = 0;
-    for token in Tokens::of(line) {
+    for token in Tokens::new(line) {
         expected = expected.after(token).ok_or(ParseError::Unreadable)?;
         known &= token.is_known(actions);
         entries += token.entries();

@@ -86,6 +86,7 @@ pub(crate) fn pass_over<'t>(
         lines: 0,
         below: true,
     };
+    // A while loop: where a line ends is known only when it has been read.
     while !rest.is_empty() {
         let (line, left) = read_line(rest)?;
         pass.below &= is_line_below(line, states);

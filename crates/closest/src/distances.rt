@@ -67,6 +67,7 @@ fn find_firsts(plan: &[u8]) -> Firsts
     let mut firsts = [0; FIRSTS];
     let mut i = 0;
     for s in 0..FIRSTS {
+        // A while loop: it goes on where it stopped for the state before.
         while i < count && usize::from(transition(plan, i).from.0) < s {
             i += 1;
         }
@@ -82,6 +83,7 @@ pub(crate) fn find_distances(plan: &[u8]) -> Distances
 {
     let firsts = find_firsts(plan);
     let mut search = Search::start();
+    // A while loop: the queue grows as it is gone through.
     while let Some(state) = search.queue.get(search.done) {
         search.reach_successors(plan, &firsts, state);
         search.done += 1;

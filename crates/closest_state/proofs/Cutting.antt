@@ -3,6 +3,7 @@ use Prim.Native.Nat.{ℕ}
 use mathlib.Core.Path.{◌≡◌, ap, ◌∙◌}
 use mathlib.Core.List.{List}
 use native.Mathlib.Omega.{arith}
+use lib.ListN.{length, take}
 use Rattle.text.specs.RefusalLine.{refusal_line}
 use Rattle.sheet.specs.Refusals.{number_of, place_of}
 use Rattle.sheet.proofs.Limits.LongFiles.{cut_answered}
@@ -13,6 +14,6 @@ use Rattle.closest_state.proofs.Texts.{text_refuses}
 pub cut_changes_nothing : CutChangesNothing
 cut_changes_nothing file = cut_answered input_length file (omega arith) program_text (λ x. refusal_line (number_of x) (place_of x)) text_refuses
 
--- what was read has the text of its file
-pub held_text : (file input : List ℕ) → HoldsStart file input → program_text input ≡ program_text file
-held_text file input h = ap program_text h ∙ cut_changes_nothing file
+-- what was read into a buffer of that length has the text of its file
+pub held_text : (file buffer : List ℕ) (n : ℕ) → length buffer ≡ input_length → HoldsStart file buffer n → program_text (take n buffer) ≡ program_text file
+held_text file buffer n l h = ap program_text (h ∙ ap (λ (k : ℕ). take k file) l) ∙ cut_changes_nothing file

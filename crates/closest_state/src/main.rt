@@ -12,6 +12,6 @@ fn main(rt: HostRuntime) -> Result<()> {
     let mut input = [0u8; INPUT_LENGTH];
     let mut text = [0u8; TEXT_LENGTH];
     let n = streams::read_full(&mut rt.stdin(), &mut input)?;
-    let k = searching::search_input(&input[..n], &mut text);
+    let k = searching::search_input(&input, n, &mut text);
     rt.write_all(&text[..k])
 }

@@ -2,7 +2,7 @@
 ghost use Rattle.std.specs.Prelude.{◌≤◌, ◌≡◌, length};
 ghost use Rattle.streams.specs.Counts.{IsPrefixLen};
 ghost use Rattle.text.specs.Placing.{Puts};
-ghost use Rattle.closest_state.specs.Buffers.{PutsTextOfFile};
+ghost use Rattle.closest_state.specs.Buffers.{input_length, PutsTextOfFile};
 ghost use Rattle.closest_state.specs.Program.{program_of, program_text};
 ghost use Rattle.closest_state.specs.ProgramCorrect.{fails_after};
 ghost use Rattle.closest_state.specs.Text.{text_length};
@@ -41,7 +41,7 @@ fn put_found(sheet: &[u8], found: Failing, visits: usize, out: &mut [u8]) -> usi
 {
     let mut way = [0u8; WAY_LENGTH];
     let _ = shortest_way(sheet, found.state, &mut way);
-    let end = put_fails(found.state, found.steps, visits, out);
+    let end = put_fails(found, visits, out);
     put_way(&way, found.steps as usize, end, out)
 }
 
@@ -60,11 +60,14 @@ fn put_text(sheet: &[u8], out: &mut [u8]) -> usize
     }
 }
 
-// Puts the text of a file of which these bytes were read: all of them, or as many as the input holds.
-pub(crate) fn search_input(input: &[u8], out: &mut [u8]) -> usize
-    requires { text_length ≤ length out.old }
+// Puts the text of a file of which n bytes were read into input: all of them, or as many as input holds. The buffer and n, and not the slice of n bytes:
+// that the buffer is long enough for every sheet is asked of it.
+pub(crate) fn search_input(input: &[u8], n: usize, out: &mut [u8]) -> usize
+    requires input_len { length input.now ≡ input_length }
+    requires prefix_len { IsPrefixLen n input.now }
+    requires text_length_in_bounds { text_length ≤ length out.old }
     ensures result_len { IsPrefixLen result out.new }
-    ensures puts_text_of_file { PutsTextOfFile input.now result out.old out.new }
+    ensures puts_text_of_file { PutsTextOfFile input.now n result out.old out.new }
 {
-    put_text(input, out)
+    put_text(&input[..n], out)
 }

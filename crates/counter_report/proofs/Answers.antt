@@ -18,9 +18,8 @@ use Rattle.judge.specs.Cells.{table_bytes}
 use Rattle.judge.specs.Clearing.{clear_check}
 use Rattle.judge.specs.LargestTable.{largest_table}
 use Rattle.judge.proofs.Statements.LargestTable.{every_table_fits}
-use Rattle.report.specs.Reporting.{most_queries, least_output, report_check, report_text, report_of}
-use Rattle.report.specs.declared.Report.{Report}
-use Rattle.report.specs.declared.Report.TheVariants.{Wrote, TooManyQueries, Refused}
+use Rattle.report.specs.Reporting.{Report, most_queries, least_output, report_check, report_text, report_of}
+use Rattle.report.specs.declared.ReportError.TheVariants.{TooManyQueries, Refused}
 use Rattle.counter_report.specs.Program.{own_table, own_output, printed, report_on, text_on}
 
 -- the program's buffers
@@ -33,16 +32,16 @@ unfolding own_output
 own_output_lem = omega (arith, length-replicate {A = ℕ} least_output 0)
 
 module _ (s states : List ℕ) where
-  pub report_many : most_queries < length states → report_on s states ≡ TooManyQueries
+  pub report_many : most_queries < length states → report_on s states ≡ Err TooManyQueries
   unfolding report_of
   report_many h = rw (lt-leb (length states) most_queries h)
 
   module _ (few : length states ≤ most_queries) where
-    pub report_refused : {x : Refusal} → sheet_check s ≡ Err x → report_on s states ≡ Refused x
+    pub report_refused : {x : Refusal} → sheet_check s ≡ Err x → report_on s states ≡ Err (Refused x)
     unfolding report_of report_check clear_check
     report_refused e = rw (le-leb (length states) most_queries few, e)
 
-    pub report_written : sheet_check s ≡ Ok tt → report_on s states ≡ Wrote (length (report_text s states own_table))
+    pub report_written : sheet_check s ≡ Ok tt → report_on s states ≡ Ok (length (report_text s states own_table))
     unfolding report_of report_check clear_check
     report_written e =
         rw (

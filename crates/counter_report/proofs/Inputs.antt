@@ -1,49 +1,15 @@
 -- What was read of a file: how much of it, its count, its states and its sheet.
-use Prim.Native.Nat.{ℕ, ◌+◌, ◌-◌, ◌<◌, ◌≤◌, min}
+use Prim.Native.Nat.{ℕ, ◌+◌, ◌-◌, ◌≤◌, min}
 use mathlib.Core.Path.{◌≡◌, sym, ap, ◌∙◌}
 use mathlib.Core.List.{List, [], ◌++◌}
 use native.Mathlib.Omega.{arith}
 use native.Mathlib.Decide.{dec_le, dec_lt}
 use lib.ListN.{length, take, drop, replicate, length-append, length-take, length-drop, length-replicate, get_or-replicate, drop_of_length-le, get_or-append, get_or-eq_default}
-use lib.Seq.{length-take-le, get_or-take, get_or-drop, get_or-append-add, take-add, drop_at, take-append-le, take-take}
-use borrow.Author.Tests.{le-leb}
-use borrow.Rule.Slice.PartMut.{put_mid, post_of, same_len_mid}
-use Rattle.streams.specs.Counts.{IsPrefixLen}
+use lib.Seq.{length-take-le, get_or-drop, get_or-append-add, take-add, drop_at, take-append-le, take-take}
 use Rattle.sheet.specs.Bytes.{byte}
-use Rattle.sheet.specs.Contents.{longest}
 use Rattle.sheet.specs.RunningCalls.{AllBytes}
 use Rattle.sheet.proofs.Acceptance.Parts.{slice_small}
-use Rattle.report.specs.Reporting.{most_queries}
 use Rattle.counter_report.specs.Input.{input_count, input_states, input_sheet}
-use Rattle.counter_report.specs.Buffers.{NoFurther}
-
--- the count byte of the first n bytes
-pub count_taken : (n : ℕ) (buffer : List ℕ) → 0 < n → byte buffer 0 ≡ input_count (take n buffer)
-count_taken n buffer h = sym (get_or-take n buffer 0 0 h)
-
--- what was read into the start of a buffer
-pub first_counted : (part tail : List ℕ) (n : ℕ) → n ≤ length part → IsPrefixLen n (part ++ tail)
-first_counted part tail n h =
-    let l : n ≤ length (part ++ tail) = omega (arith, length-append part tail) in (l, sym (length-take-le n (part ++ tail) l))
-
--- behind the count byte of a buffer m bytes were lent, and rest of them read
-module _ (buffer part : List ℕ) (m rest : ℕ) (room : 1 + m ≤ length buffer) (size : length part ≡ m) (few : rest ≤ m) where
-  abbrev after : List ℕ
-  after = put_mid 1 m buffer part
-
-  after_length : length after ≡ length buffer
-  after_length = same_len_mid 1 m buffer part (size ∙ sym (length-take-le m (drop 1 buffer) (omega (arith, length-drop 1 buffer))))
-
-  after_count : byte after 0 ≡ byte buffer 0
-  after_count = get_or-append (take 1 buffer) (part ++ post_of 1 m buffer) 0 0 (omega (arith, length-take 1 buffer)) ∙ get_or-take 1 buffer 0 0 (omega arith)
-
-  pub rest_counted : IsPrefixLen (1 + rest) after
-  rest_counted = let l : 1 + rest ≤ length after = omega (arith, after_length) in (l, sym (length-take-le (1 + rest) after l))
-
-  pub rest_needed_lem : byte buffer 0 ≤ most_queries → m ≡ byte buffer 0 + (longest + 1) → NoFurther (1 + rest) after
-  rest_needed_lem h e =
-      let count : input_count (take (1 + rest) after) ≡ byte buffer 0 = get_or-take (1 + rest) after 0 0 (omega arith) ∙ after_count in
-      rw (count, le-leb (byte buffer 0) most_queries h) (omega arith)
 
 -- ---- the parts of what was read
 

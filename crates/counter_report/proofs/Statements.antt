@@ -18,11 +18,9 @@ use Rattle.sheet.proofs.Limits.ByteLists.{bytes_nil, bytes_cons}
 use Rattle.calculus.specs.KeySheet.{K}
 use Rattle.judge.proofs.Statements.SheetsToTry.{sheets_to_try}
 use Rattle.report.specs.Text.{text_of}
-use Rattle.report.specs.Reporting.{most_queries, report_text, table_reported, output_reported, reported_text, WritesReport}
+use Rattle.report.specs.Reporting.{Report, most_queries, report_text, table_reported, output_reported, reported_text, WritesReport}
 use Rattle.report.specs.ReportCorrect.{ReportCorrect}
 use Rattle.report.specs.ReportsToTry.{key_text}
-use Rattle.report.specs.declared.Report.{Report}
-use Rattle.report.specs.declared.Report.TheVariants.{Wrote}
 use Rattle.report.proofs.Statements.ReportCorrect.{reports_correct}
 use Rattle.report.proofs.Statements.ReportsToTry.{reports_to_try}
 use Rattle.counter_report.specs.Input.{input_count, input_states, input_sheet}
@@ -43,7 +41,7 @@ module _ (s states : List ℕ) (few : length states ≤ most_queries) (bytes : A
   reported : WritesReport s states own_table own_output (report_on s states) table output
   reported = (refl, (refl, (refl, (refl, bytes))))
 
-  written : report_on s states ≡ Wrote (length (report_text s states own_table))
+  written : report_on s states ≡ Ok (length (report_text s states own_table))
   written = report_written s states few e
 
   -- the text that it puts is what is printed

@@ -16,15 +16,14 @@ use Rattle.sheet.specs.Refusals.{and_then}
 use Rattle.std.specs.Prelude.{Err, Ok}
 use Rattle.sheet.specs.Refusals.{Check}
 use Rattle.judge.specs.Clearing.{clear_check}
-use Rattle.report.specs.Reporting.{least_output, few_queries, report_check, report_text, answer_report, report_of, leaves, output_reported, reported_text, WritesReport}
-use Rattle.report.specs.declared.Report.{Report}
-use Rattle.report.specs.declared.Report.TheVariants.{Wrote, TooManyQueries, Refused}
+use Rattle.report.specs.Reporting.{Report, least_output, few_queries, report_check, report_text, answer_report, report_of, leaves, output_reported, reported_text, WritesReport}
+use Rattle.report.specs.declared.ReportError.TheVariants.{TooManyQueries, Refused}
 use Rattle.report.proofs.Statements.ReportCorrect.{reports_correct}
 use Rattle.counter_report.specs.Program.{own_table, own_output, printed, report_on, text_on}
 use Rattle.counter_report.proofs.Answers.{own_output_lem}
 
 -- the output of a report that is written, for each test and each check
-written_left : (text out : List ℕ) {n : ℕ} (b : Bool) (c : Check) → answer_report (length text) b c ≡ Wrote n
+written_left : (text out : List ℕ) {n : ℕ} (b : Bool) (c : Check) → answer_report (length text) b c ≡ Ok n
     → Puts text n out (leaves (starting_with text out) out (answer_report (length text) b c))
 written_left text out true (Ok tt) e = (cc, refl)
 written_left text out true (Err x) e = (cc, cc)
@@ -32,9 +31,9 @@ written_left text out false c e = (cc, cc)
 
 -- the line of a refusal is printed of each answer that is one
 refusal_printed : (lines : List ℕ) (r : Report) → (reported_text r).number ≢ 0 → printed lines r ≡ refusal_line (reported_text r).number (reported_text r).place
-refusal_printed lines (Wrote n) h = absurd (h refl)
-refusal_printed lines TooManyQueries h = refl
-refusal_printed lines (Refused x) h = refl
+refusal_printed lines (Ok n) h = absurd (h refl)
+refusal_printed lines (Err TooManyQueries) h = refl
+refusal_printed lines (Err (Refused x)) h = refl
 
 -- an output that is long enough is not refused; the program's own is long enough
 room_checked : (s t out : List ℕ) → least_output ≤ length out → report_check s t out ≡ and_then (clear_check s t) (Ok tt)
@@ -52,7 +51,7 @@ module _ (s states out : List ℕ) (room : least_output ≤ length out) {answer 
   unfolding text_on
   text_is = ap (printed (report_text s states own_table)) same_report
 
-  pub written_puts : {n : ℕ} → answer ≡ Wrote n → IsPrefixLen n left × Puts (text_on s states) n out left
+  pub written_puts : {n : ℕ} → answer ≡ Ok n → IsPrefixLen n left × Puts (text_on s states) n out left
   unfolding report_of output_reported
   written_puts {n} e =
       puts_counted out (ap (printed (report_text s states own_table)) (sym e) ∙ text_is)

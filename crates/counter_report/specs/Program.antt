@@ -9,11 +9,10 @@ use Rattle.sheet.specs.declared.Refusal.{Refusal}
 use Rattle.calculus.specs.KeySheet.{K}
 use Rattle.judge.specs.LargestTable.{largest_table}
 use Rattle.report.specs.Text.{text_of}
-use Rattle.report.specs.Reporting.{most_queries, least_output, report_text, report_of, reported_text}
+use Rattle.report.specs.Reporting.{Report, most_queries, least_output, report_text, report_of, reported_text}
 use Rattle.report.specs.ReportCorrect.{ReportCorrect}
 use Rattle.report.specs.ReportsToTry.{key_text}
-use Rattle.report.specs.declared.Report.{Report}
-use Rattle.report.specs.declared.Report.TheVariants.{Wrote, TooManyQueries, Refused}
+use Rattle.report.specs.declared.ReportError.TheVariants.{TooManyQueries, Refused}
 use Rattle.counter_report.specs.Input.{input_count, input_states, input_sheet}
 
 -- the program's table: room for that of every sheet
@@ -26,9 +25,9 @@ own_output = replicate least_output 0
 
 -- "prints the lines or only the refusal line"
 abbrev pub printed : List ℕ → Report → List ℕ
-printed lines (Wrote n) = lines
-printed lines TooManyQueries = refusal_line (reported_text TooManyQueries).number (reported_text TooManyQueries).place
-printed lines (Refused x) = refusal_line (reported_text (Refused x)).number (reported_text (Refused x)).place
+printed lines (Ok n) = lines
+printed lines (Err TooManyQueries) = refusal_line (reported_text (Err TooManyQueries)).number (reported_text (Err TooManyQueries)).place
+printed lines (Err (Refused x)) = refusal_line (reported_text (Err (Refused x))).number (reported_text (Err (Refused x))).place
 
 -- the report on a sheet and a list of states, with these buffers
 abbrev pub report_on : List ℕ → List ℕ → Report

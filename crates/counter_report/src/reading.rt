@@ -14,16 +14,15 @@ const SHEET_BYTES: usize = LONGEST + 1;
 // The most that is needed: the count byte, and what may follow the largest count.
 pub(crate) const INPUT_LENGTH: usize = 1 + (MOST_QUERIES + SHEET_BYTES);
 
-// The count byte of a file of which n bytes were read into input, 0 where there is none.
-pub(crate) fn count_read(input: &[u8], n: usize) -> usize
-    requires { IsPrefixLen n input.now }
-    ensures value { result ≡ input_count (take n input.now) }
+// The count byte of what was read of a file, 0 where there is none.
+pub(crate) fn count_read(read: &[u8]) -> usize
+    ensures value { result ≡ input_count read.now }
     ensures upper_bound { result < 256 }
 {
-    if n == 0 {
-        return 0;
+    match read.first() {
+        Some(&count) => usize::from(count),
+        None => 0,
     }
-    input[0] as usize
 }
 
 // Reads what may follow a count byte. How many bytes that is, is asked of the caller. The only error is that of a read that fails.
@@ -47,7 +46,7 @@ pub(crate) fn read_input<R: Read>(reader: &mut R, input: &mut [u8]) -> Result<us
     if first == 0 {
         return Ok(0);
     }
-    let count = count_read(input, first);
+    let count = count_read(&input[..first]);
     if MOST_QUERIES < count {
         return Ok(first);
     }

@@ -15,6 +15,7 @@ use crate::marks::{is_outer, opening};
 use crate::table::cell_position;
 use calculus::meeting::has_bit;
 use graph::Starts;
+use sheet::kinds::NodeKind;
 use sheet::plan::state_count;
 use sheet::reader::plan_body;
 use sheet::{Node, State, Variable};
@@ -68,11 +69,14 @@ fn row_follows(
     ensures { result ≡ row_follows sheet.now table.now (cell mark node.0 state.0) b }
 {
     let k = kind_of(sheet, index, node);
-    match k {
-        0 => b == 1,
-        1 => b == 2,
-        2..=3 => {
-            let one = (b == 2) == (k == 2);
+    let Ok(kind) = NodeKind::try_from(k) else {
+        return b == 1;
+    };
+    match kind {
+        NodeKind::False => b == 1,
+        NodeKind::True => b == 2,
+        NodeKind::Or | NodeKind::And => {
+            let one = (b == 2) == (kind == NodeKind::Or);
             let x = x_of(sheet, index, node);
             if byte_is(table, cell_position(index, mark, Node(x), state), b) == one {
                 return one;
@@ -80,9 +84,9 @@ fn row_follows(
             let y = y_of(sheet, index, node);
             byte_is(table, cell_position(index, mark, Node(y), state), b)
         }
-        4 => successors_hold(sheet, index, table, node, state, b == 2, b),
-        5 => successors_hold(sheet, index, table, node, state, b == 1, b),
-        6 => {
+        NodeKind::Diamond => successors_hold(sheet, index, table, node, state, b == 2, b),
+        NodeKind::Box => successors_hold(sheet, index, table, node, state, b == 1, b),
+        NodeKind::Variable => {
             let x = x_of(sheet, index, node);
             let binder = binder_of(index, Variable(x));
             if is_outer(Variable(x), mark) {
@@ -90,13 +94,12 @@ fn row_follows(
             }
             (kind_of(sheet, index, binder) == 8) == (b == 2)
         }
-        7..=8 => {
+        NodeKind::Least | NodeKind::Greatest => {
             let x = x_of(sheet, index, node);
             let y = y_of(sheet, index, node);
             let inner = opening(Variable(x), mark);
             byte_is(table, cell_position(index, inner, Node(y), state), b)
         }
-        _ => b == 1,
     }
 }
 

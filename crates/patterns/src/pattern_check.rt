@@ -15,6 +15,7 @@ pub(crate) fn is_readable(pattern: &[u8], entries: u8) -> bool
     }
     let mut rest = parts;
     let mut missing: usize = 1;
+    // A while loop: a part takes one byte or two.
     while let Some((op, behind)) = rest.split_first() {
         if missing == 0 {
             return false;

@@ -31,7 +31,6 @@ use Rattle.judge.specs.Cells.{Cell, cell, written_rows, enough, position_of, cel
 use Rattle.judge.specs.Querying.{query_check, count_right, result_of, answer_queried, queried_of, table_queried, reported_query}
 use Rattle.judge.specs.QueryCorrect.{QueryCorrect}
 use Rattle.judge.specs.Lists.{reports}
-use Rattle.std.specs.Prelude.{Ok, Err}
 use Rattle.judge.specs.Querying.{Queried}
 use Rattle.judge.specs.declared.QueryError.TheVariants.{Refused}
 use Rattle.judge.proofs.Cells.ValidCells.{Valid, root_valid}

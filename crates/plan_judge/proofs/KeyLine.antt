@@ -6,7 +6,7 @@ use mathlib.Core.List.{List, [], ◌∷◌}
 use native.Mathlib.Omega.{arith}
 use lib.ListN.{length, length-replicate}
 use Rattle.sheet.specs.Reading.{sheet_check}
-use Rattle.std.specs.Prelude.{Ok}
+use Rattle.std.specs.Prelude.{Ok, Err}
 use Rattle.sheet.proofs.Acceptance.Numbers.{refused_number}
 use Rattle.calculus.specs.KeySheet.{K}
 use Rattle.text.specs.Decimal.{digits_of}
@@ -15,7 +15,6 @@ use Rattle.judge.specs.Querying.{QueryReport, queried_of, reported_query}
 use Rattle.judge.specs.Clearing.{table_cleared}
 use Rattle.judge.specs.Lists.{none, call}
 use Rattle.judge.specs.SheetsToTry.{judged}
-use Rattle.std.specs.Prelude.{Ok, Err}
 use Rattle.judge.specs.Querying.{Queried}
 use Rattle.judge.specs.declared.QueryError.TheVariants.{WrongCount, Refused}
 use Rattle.judge.proofs.Lists.JustCleared.{cleared_exact}
@@ -25,7 +24,7 @@ use Rattle.plan_judge.specs.Program.{cleared_table, program_of, KeyLine}
 
 -- an answer by what it reports
 judged_answer : (q : Queried) (v : Bool) (n : ℕ) → reported_query q ≡ judged v n → q ≡ Ok (record { verdict = v; visits = n })
-judged_answer (Ok j) v n e = λ i. Judged (e i).verdict (e i).visits
+judged_answer (Ok j) v n e = λ i. Ok (record { verdict = (e i).verdict; visits = (e i).visits })
 judged_answer (Err WrongCount) v n e = absurd (omega (arith, ap (λ (r : QueryReport). r.number) e))
 judged_answer (Err (Refused x)) v n e = absurd (omega (arith, refused_number x, ap (λ (r : QueryReport). r.number) e))
 

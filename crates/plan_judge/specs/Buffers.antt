@@ -1,22 +1,19 @@
 -- The program's buffers: its table and its input, and that each is long enough for every sheet.
-use Rattle.std.specs.Prelude.{ℕ, ◌+◌, ◌≤◌, ◌≡◌, List, length, take}
+use Rattle.std.specs.Prelude.{ℕ, ◌+◌, ◌≤◌, ◌≡◌, Ok, Err, List, length, take}
 use Rattle.sheet.specs.Contents.{longest}
 use Rattle.text.specs.Placing.{Puts}
-use Rattle.judge.specs.Clearing.{cleared_of, table_cleared}
+use Rattle.judge.specs.Clearing.{Cleared, cleared_of, table_cleared}
 use Rattle.judge.specs.LargestTable.{largest_table}
-use Rattle.judge.specs.Querying.{queried_of}
-use Rattle.judge.specs.Clearing.{Cleared}
-use Rattle.judge.specs.Querying.{Queried}
-use Rattle.judge.specs.declared.Cleared.TheVariants as cleared
-use Rattle.judge.specs.declared.Queried.TheVariants as queried
+use Rattle.judge.specs.Querying.{Queried, queried_of}
+use Rattle.judge.specs.declared.QueryError.TheVariants.{Refused}
 use Rattle.plan_judge.specs.Program.{program_of, program_line}
 
 -- ---- the table
 
 -- clearing's refusal is the answer, and no query is made
 abbrev pub answer_after : Queried → Cleared → Queried
-answer_after q cleared.Done = q
-answer_after q (cleared.Refused r) = queried.Refused r
+answer_after q (Ok tt) = q
+answer_after q (Err r) = Err (Refused r)
 
 -- "clears, queries state 0", with a buffer t
 abbrev pub clear_then_query : List ℕ → List ℕ → Queried

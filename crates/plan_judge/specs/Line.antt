@@ -1,11 +1,9 @@
 -- "prints one line, ended by a line feed: `true` or `false`, a space, the visits; or `refused`, a space, the number, a space, the place"
-use Rattle.std.specs.Prelude.{ℕ, ◌≤◌, List, ◌++◌, length}
+use Rattle.std.specs.Prelude.{ℕ, ◌≤◌, Ok, Err, List, ◌++◌, length}
 use Rattle.text.specs.Decimal.{decimal_of}
 use Rattle.text.specs.RefusalLine.{refusal_line, refusal_length}
 use Rattle.text.specs.Words.{space, line_feed, bool_text}
-use Rattle.judge.specs.Querying.{reported_query}
-use Rattle.std.specs.Prelude.{Ok, Err}
-use Rattle.judge.specs.Querying.{Queried}
+use Rattle.judge.specs.Querying.{Queried, reported_query}
 use Rattle.judge.specs.declared.QueryError.TheVariants.{WrongCount, Refused}
 
 -- the line of an answer

@@ -10,10 +10,8 @@ use Rattle.calculus.specs.Verdict.{Verdict}
 use Rattle.graph.specs.Loops.{LoopReachable}
 use Rattle.graph.specs.Successors.{successors}
 use Rattle.judge.specs.Cells.{table_bytes}
-use Rattle.judge.specs.Querying.{queried_of, reported_query}
+use Rattle.judge.specs.Querying.{Queried, queried_of, reported_query}
 use Rattle.judge.specs.QueryCorrect.{QueryCorrect}
-use Rattle.std.specs.Prelude.{Ok, Err}
-use Rattle.judge.specs.Querying.{Queried}
 use Rattle.judge.specs.declared.QueryError.TheVariants.{Refused}
 use Rattle.plan_judge.specs.Line.{line_of}
 

@@ -76,7 +76,7 @@ impl<'a> Judge<'a> {
             // No transition leads out of it.
             NodeKind::Box => self.full ^ self.some(x, self.full ^ self.evaluate(Node(y), context)),
             NodeKind::Variable => context.set_of(Variable(x)),
-            // Its image is added until nothing is new.
+            // Its image is added until nothing is new, which no count of rounds tells beforehand.
             NodeKind::Least => loop {
                 let image = self.evaluate(Node(y), context);
                 let states = context.set_of(Variable(x));
@@ -87,7 +87,7 @@ impl<'a> Judge<'a> {
                 context.put(Variable(x), next);
                 context.restart(rule, Node(y), NodeKind::Greatest, self.full);
             },
-            // What its image lacks is taken away until nothing is.
+            // What its image lacks is taken away until nothing is, which no count of rounds tells beforehand.
             NodeKind::Greatest => loop {
                 let image = self.evaluate(Node(y), context);
                 let states = context.set_of(Variable(x));

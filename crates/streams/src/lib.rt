@@ -17,6 +17,7 @@ pub fn read_full<R: Read>(reader: &mut R, buf: &mut [u8]) -> Result<usize>
     ensures failed { OnErr result (length buf.new ≡ length buf.old) }
 {
     let mut done = 0;
+    // A while loop: how much a read brings is known only after it.
     while done < buf.len() {
         let n = reader.read(&mut buf[done..])?;
         if n == 0 {

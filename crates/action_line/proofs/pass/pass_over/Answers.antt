@@ -17,7 +17,7 @@ pub loop-token-init : goal.loop-token-init
 loop-token-init c =
     let a = c.args in
     let e = c.into_iter-token-iterator.ensures.into_iter_gives in
-    rw (e, c.of-token-items.ensures) (pass_starts a.actions a.line.now a.builder.now c.requires)
+    rw (e, c.new-token-items.ensures) (pass_starts a.actions a.line.now a.builder.now c.requires)
 
 pub after-requires : goal.after-requires
 after-requires c =

@@ -2,7 +2,7 @@ use Rattle.std.proofs.Common.{◌≤◌, length, refl, sym, ◌∙◌, arith}
 use Rattle.std.proofs.lemmas.Result.{err_from_is_err_and}
 use Rattle.branches.specs.Branches.{labelled}
 use Rattle.branches.specs.Internal.Examining.{longest_plan, Ready}
-use Rattle.branches.proofs.Steps.Committing.{refused, differing, same, differs, new_is, new_within, new_counted, new_writable, wrote}
+use Rattle.branches.proofs.Steps.Committing.{refused, differing, same, differs, new_is, new_within, new_counted, wrote}
 use Rattle.branches.proofs.committing.commit.Goals as goal
 use Rattle.branches.proofs.committing.commit.Goals.{In_ok-fresh}
 
@@ -33,11 +33,6 @@ pub slice_bounds-write_with-end : goal.slice_bounds-write_with-end
 slice_bounds-write_with-end c =
     let f = (goal.at.slice_bounds-write_with-end c).In_ok-fresh in
     new_counted c.args.sheet.now c.args.transition _ (ready f) c.plan_body.ensures (room f)
-
-pub write_with-requires : goal.write_with-requires
-write_with-requires c =
-    let f = (goal.at.write_with-requires c).In_ok-fresh in
-    new_writable c.args.sheet.now c.args.transition _ (ready f) c.plan_body.ensures (room f)
 
 pub returns : goal.returns
 returns c =

@@ -1,24 +1,11 @@
-use Prim.Native.Nat.{ℕ}
-use native.Mathlib.Omega.{arith}
-use mathlib.Core.Path.{ap}
 use borrow.Author.Rules.{rules}
-use lib.ListN.{length}
 use Rattle.text.proofs.Placing.{placed_first}
 use Rattle.branches.proofs.Steps.Committing.{no_room, put_whole}
 use Rattle.branches.proofs.committing.write_with.Goals as goal
 
-pub overflow_add-plan-3 : goal.overflow_add-plan-3
-overflow_add-plan-3 c = omega (arith, ap (length {A = ℕ}) c.actions_body-actions.ensures, ap (length {A = ℕ}) c.rule_body-rule.ensures, c.requires)
-
 pub returns-then-out-plan : goal.returns-then-out-plan
 returns-then-out-plan c = let a = c.args in
     no_room a.sheet.now a.plan.now a.out.now c.actions_body-actions.ensures c.rule_body-rule.ensures c.if-out-plan.true
-
-pub overflow_cast-actions : goal.overflow_cast-actions
-overflow_cast-actions c = omega (arith, ap (length {A = ℕ}) c.actions_body-actions.ensures, ap (length {A = ℕ}) c.rule_body-rule.ensures, c.requires)
-
-pub overflow_cast-rule : goal.overflow_cast-rule
-overflow_cast-rule c = omega (arith, ap (length {A = ℕ}) c.actions_body-actions.ensures, ap (length {A = ℕ}) c.rule_body-rule.ensures, c.requires)
 
 pub returns : goal.returns
 returns c = let a = c.args in

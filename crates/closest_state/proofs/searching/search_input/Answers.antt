@@ -7,4 +7,4 @@ use Rattle.closest_state.proofs.searching.search_input.Goals as goal
 pub returns-clause-puts_text_of_file : goal.returns-clause-puts_text_of_file
 returns-clause-puts_text_of_file c = λ file h. subst
     (λ (l : List ℕ). Puts l c.put_text.result c.args.out.now c.put_text.new.out)
-    (held_text file c.args.input.now h) c.put_text.ensures.puts
+    (held_text file c.args.input.now c.args.n c.requires.input_len h) c.put_text.ensures.puts

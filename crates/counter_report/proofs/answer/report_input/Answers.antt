@@ -8,8 +8,8 @@ pub returns-clause-puts_text_of_file : goal.returns-clause-puts_text_of_file
 returns-clause-puts_text_of_file c =
     let a = c.args in
     let put = c.report_text in
-    let sheet = c.sheet_start-start in
     let count = c.count_read-count in
+    let start = c.min-start in
     λ file h. subst (λ (l : List ℕ). Puts l put.result a.text.now put.new.text)
-    (held_text a.input.now a.n c.requires.prefix_len.0 file count.result sheet.result (1 + count.result) h count.ensures.value sheet.ensures refl (omega arith))
+    (held_text a.input.now a.n c.requires.prefix_len.0 file count.result start.result (1 + count.result) h count.ensures.value start.ensures refl (omega arith))
     put.ensures.puts

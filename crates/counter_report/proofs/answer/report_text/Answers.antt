@@ -1,24 +1,33 @@
 -- `counter_report::answer::report_text` meets its contract.
-use mathlib.Core.Path.{ap}
+use mathlib.Core.Path.{◌≡◌, sym, ap, ◌∙◌}
+use mathlib.Core.Logic.{◌≢◌}
 use native.Mathlib.Omega.{arith}
+use Rattle.std.specs.Prelude.{Err}
 use Rattle.sheet.proofs.Acceptance.Numbers.{refused_number}
-use Rattle.report.specs.Reporting.{reported_text}
-use Rattle.report.specs.declared.Report.{Report}
+use Rattle.report.specs.Reporting.{Report, reported_text}
+use Rattle.report.specs.declared.ReportError.{ReportError}
+use Rattle.report.specs.declared.ReportError.TheVariants.{TooManyQueries, Refused}
 use Rattle.counter_report.specs.Program.{own_table}
 use Rattle.counter_report.proofs.Texts.{written_puts, refusal_puts}
 use Rattle.counter_report.proofs.answer.report_text.Goals as goal
 
-pub returns-in-Wrote : goal.returns-in-Wrote
-unfolding own_table
-returns-in-Wrote c =
-    let start = c in record { prefix_len = (written_puts start.args.sheet.now start.args.states.now start.args.text.now start.requires c.report-answer.ensures c.in-Wrote.is).0; puts = (written_puts start.args.sheet.now start.args.states.now start.args.text.now start.requires c.report-answer.ensures c.in-Wrote.is).1 }
+refused_lem : (e : ReportError) → (reported_text (Err e)).number ≢ 0
+refused_lem TooManyQueries z = absurd (omega (arith, z))
+refused_lem (Refused x) z = absurd (omega (arith, z, refused_number x))
 
-pub returns-in-TooManyQueries : goal.returns-in-TooManyQueries
+pub returns-in-Ok : goal.returns-in-Ok
 unfolding own_table
-returns-in-TooManyQueries c =
-    let start = c in record { prefix_len = (refusal_puts start.args.sheet.now start.args.states.now start.args.text.now start.requires c.report-answer.ensures (λ z. omega (arith, z, ap (λ (r : Report). (reported_text r).number) c.in-TooManyQueries.is)) c.number.ensures c.place.ensures (c.put_refusal.ensures.value, c.put_refusal.ensures.out_after)).0; puts = (refusal_puts start.args.sheet.now start.args.states.now start.args.text.now start.requires c.report-answer.ensures (λ z. omega (arith, z, ap (λ (r : Report). (reported_text r).number) c.in-TooManyQueries.is)) c.number.ensures c.place.ensures (c.put_refusal.ensures.value, c.put_refusal.ensures.out_after)).1 }
+returns-in-Ok c =
+    let both = written_puts c.args.sheet.now c.args.states.now c.args.text.now c.requires c.report.ensures c.in-Ok.is in
+    record { prefix_len = both.0; puts = both.1 }
 
-pub returns-in-Refused : goal.returns-in-Refused
+pub returns-in-Err : goal.returns-in-Err
 unfolding own_table
-returns-in-Refused c =
-    let start = c in record { prefix_len = (refusal_puts start.args.sheet.now start.args.states.now start.args.text.now start.requires c.report-answer.ensures (λ z. omega (arith, z, ap (λ (r : Report). (reported_text r).number) c.in-Refused.is, refused_number c.in-Refused.field-0)) c.number-in-Refused.ensures c.place-in-Refused.ensures (c.put_refusal-in-Refused.ensures.value, c.put_refusal-in-Refused.ensures.out_after)).0; puts = (refusal_puts start.args.sheet.now start.args.states.now start.args.text.now start.requires c.report-answer.ensures (λ z. omega (arith, z, ap (λ (r : Report). (reported_text r).number) c.in-Refused.is, refused_number c.in-Refused.field-0)) c.number-in-Refused.ensures c.place-in-Refused.ensures (c.put_refusal-in-Refused.ensures.value, c.put_refusal-in-Refused.ensures.out_after)).1 }
+returns-in-Err c =
+    let e = c.in-Err.e in
+    let number : (reported_text (Err e)).number ≡ (reported_text c.report.result).number = ap (λ (r : Report). (reported_text r).number) (sym c.in-Err.is) in
+    let place : (reported_text (Err e)).place ≡ (reported_text c.report.result).place = ap (λ (r : Report). (reported_text r).place) (sym c.in-Err.is) in
+    let both =
+    refusal_puts c.args.sheet.now c.args.states.now c.args.text.now c.requires c.report.ensures (λ z. refused_lem e (number ∙ z)) (c.number.ensures ∙ number) (c.place.ensures ∙ place)
+    (c.put_refusal.ensures.value, c.put_refusal.ensures.out_after) in
+    record { prefix_len = both.0; puts = both.1 }

@@ -2,16 +2,20 @@
 -- answers to its goals.
 use Rattle.std.proofs.Common.{◌≡◌, ℕ, ◌*◌, ◌<◌, ◌≤◌, true, false, eqb, List, length, get_or, sym, refl, ap, ◌∙◌, arith, eq-eqb, ne_eqb}
 use mathlib.Core.Bool.{beq}
+use mathlib.Core.Logic.{inl, inr}
 use Rattle.sheet.specs.Bytes.{pick}
 use Rattle.sheet.specs.Contents.{rule_body}
 use Rattle.sheet.specs.Rule.{binder_node}
+use Rattle.sheet.specs.KindNumbers.{node_kind_number}
+use Rattle.sheet.specs.declared.kinds.NodeKind.TheVariants as Kind
+use Rattle.sheet.proofs.Steps.Kinds.{between_kinds}
 use Rattle.judge.specs.declared.index.Index.{Index}
 use Rattle.judge.specs.Cells.{Cell, cell, opened, outer, cell_bytes}
 use Rattle.judge.specs.Internal.Deciding.{DecideRequires, FollowRequires}
 use Rattle.judge.specs.Internal.Packed.{verdict_in}
 use Rattle.judge.proofs.Steps.DecideSteps.{rank_at, kind_at, x_at, y_at}
 use Rattle.judge.proofs.Steps.Turns.{walk_rank, meets_at, modal_node_at, state_at, transition_at_lem, met}
-use Rattle.judge.proofs.deciding.+decide_follow.Goals.{follow-then-has_bit+else-decides, follow-else-has_bit, decide-After-binder_of-binder, decide-After-cell_position-at, decide-After-decide-first, decide-After-decide-second, decide-After-decides, decide-After-follow-w, decide-After-follow-w-in-5, decide-After-kind_of-k, decide-After-opening-inner, decide-After-packed_constant-w, decide-In-2-to-3, decide-In-7-to-8, decide-Start, decide-Then-is_outer, follow-After-decide-w, follow-After-decides, follow-After-has_bit, follow-At-loop-i, follow-In-loop-i, follow-Start}
+use Rattle.judge.proofs.deciding.+decide_follow.Goals.{follow-then-has_bit+else-decides, follow-else-has_bit, decide-After-binder_of-binder, decide-After-cell_position-at, decide-After-decide-first, decide-After-decide-second, decide-After-decides, decide-After-follow-w, decide-After-follow-w-in-Box, decide-After-kind_of-k, decide-After-opening-inner, decide-After-constant-w, decide-In-Or, decide-In-Least, decide-Start, decide-Then-is_outer, follow-After-decide-w, follow-After-decides, follow-After-has_bit, follow-At-loop-i, follow-In-loop-i, follow-Start}
 use Rattle.judge.specs.Internal.Index.{TransitionAt}
 use Rattle.judge.proofs.Steps.FollowWalk.{WalkedTo, walk_start, walk_finish, sum_small, call_child, turn_decided, turn_on, turn_past}
 use Rattle.judge.proofs.Steps.DecideCalls as calls
@@ -102,14 +106,14 @@ module _ {t : ℕ} (c : decide-After-follow-w t) where
   some = (goal.at.decide-After-follow-w t c).After-kind_of-k
 
   is_some : its_kind (begun some) ≡ 4
-  is_some = is some c.in-4.is
+  is_some = is some (sym c.in-Ok.ensures ∙ ap node_kind_number c.in-Diamond.is)
 
-module _ {t : ℕ} (c : decide-After-follow-w-in-5 t) where
+module _ {t : ℕ} (c : decide-After-follow-w-in-Box t) where
   abbrev every : decide-After-kind_of-k t
-  every = (goal.at.decide-After-follow-w-in-5 t c).After-kind_of-k
+  every = (goal.at.decide-After-follow-w-in-Box t c).After-kind_of-k
 
   is_every : its_kind (begun every) ≡ 5
-  is_every = is every c.in-5.is
+  is_every = is every (sym c.in-Ok.ensures ∙ ap node_kind_number c.in-Box.is)
 
 -- ---- a variable: the node of its binder, and whether its binder is an outer one
 module _ {t : ℕ} (c : decide-After-binder_of-binder t) where
@@ -117,10 +121,10 @@ module _ {t : ℕ} (c : decide-After-binder_of-binder t) where
   variable = (goal.at.decide-After-binder_of-binder t c).After-kind_of-k
 
   is_variable : its_kind (begun variable) ≡ 6
-  is_variable = is variable c.in-6.is
+  is_variable = is variable (sym c.in-Ok.ensures ∙ ap node_kind_number c.in-Variable.is)
 
-  x_is : c.x_of-x.result ≡ its_x (begun variable)
-  x_is = c.x_of-x.ensures
+  x_is : c.x_of-x-in-Variable.result ≡ its_x (begun variable)
+  x_is = c.x_of-x-in-Variable.ensures
 
   binder_is : c.binder_of-binder.result.0 ≡ its_binder (begun variable)
   binder_is = calls.binder_found (asked (begun variable)) is_variable x_is c.binder_of-binder.ensures
@@ -129,45 +133,60 @@ module _ {t : ℕ} (c : decide-Then-is_outer t) where
   abbrev outer_one : decide-After-binder_of-binder t
   outer_one = (goal.at.decide-Then-is_outer t c).After-binder_of-binder
 
-  is_outer_one : outer outer_one.x_of-x.result (begun (variable outer_one)).args.mark ≡ true
+  is_outer_one : outer outer_one.x_of-x-in-Variable.result (begun (variable outer_one)).args.mark ≡ true
   is_outer_one = sym c.is_outer.ensures ∙ c.if-is_outer.true
 
-module _ {t : ℕ} (c : decide-After-packed_constant-w t) where
+module _ {t : ℕ} (c : decide-After-constant-w t) where
   abbrev inner : decide-After-binder_of-binder t
-  inner = (goal.at.decide-After-packed_constant-w t c).After-binder_of-binder
+  inner = (goal.at.decide-After-constant-w t c).After-binder_of-binder
 
-  is_inner : outer inner.x_of-x.result (begun (variable inner)).args.mark ≡ false
+  is_inner : outer inner.x_of-x-in-Variable.result (begun (variable inner)).args.mark ≡ false
   is_inner = sym c.is_outer.ensures ∙ c.if-is_outer.false
 
-  constant_is : c.packed_constant-w.result
+  constant_is : c.constant-w.result.0
       ≡ pick (eqb (kind_at (sheet (begun (variable inner))) (its_binder (begun (variable inner)))) 8) 1 0
   constant_is =
-      c.packed_constant-w.ensures.0 ∙
+      c.constant-w.ensures.0 ∙
       ap (λ (k : ℕ). pick (eqb k 8) 1 0) (c.kind_of.ensures ∙ ap (kind_at (sheet (begun (variable inner)))) (binder_is inner))
 
 -- ---- or and and: its first cell is decided, and then its second
-module _ {t : ℕ} (c : decide-In-2-to-3 t) where
-  pair_low : 2 ≤ its_kind (begun (goal.at.decide-In-2-to-3 t c).After-kind_of-k)
-  pair_low = omega (arith, kind (goal.at.decide-In-2-to-3 t c).After-kind_of-k, c.in-2-to-3.in_default-own.rest)
+module _ {t : ℕ} (c : decide-In-Or t) where
+  its_pair : (2 ≤ its_kind (begun (goal.at.decide-In-Or t c).After-kind_of-k)) × (its_kind (begun (goal.at.decide-In-Or t c).After-kind_of-k) ≤ 3)
+  its_pair =
+      between_kinds node_kind_number c.in-Ok.kind Kind.Or Kind.And _ (c.in-Ok.ensures ∙ kind (goal.at.decide-In-Or t c).After-kind_of-k) (omega arith) c.in-Or.is
 
-  pair_high : its_kind (begun (goal.at.decide-In-2-to-3 t c).After-kind_of-k) < 4
-  pair_high = omega (arith, kind (goal.at.decide-In-2-to-3 t c).After-kind_of-k, c.in-2-to-3.if-k-lt4-own.true)
+  pair_low : 2 ≤ its_kind (begun (goal.at.decide-In-Or t c).After-kind_of-k)
+  pair_low = its_pair.0
+
+  pair_high : its_kind (begun (goal.at.decide-In-Or t c).After-kind_of-k) < 4
+  pair_high = omega (arith, its_pair.1)
 
 module _ {t : ℕ} (c : decide-After-decides t) where
-  abbrev pair : decide-In-2-to-3 t
-  pair = (goal.at.decide-After-decides t c).In-2-to-3
+  abbrev pair : decide-In-Or t
+  pair = (goal.at.decide-After-decides t c).In-Or
 
   abbrev either : decide-After-kind_of-k t
-  either = (goal.at.decide-In-2-to-3 t pair).After-kind_of-k
+  either = (goal.at.decide-In-Or t pair).After-kind_of-k
 
   abbrev first : decide-After-decide-first t
   first = (goal.at.decide-After-decides t c).After-decide-first
 
-  first_x : first.x_of-x-in-2-to-3.result ≡ its_x (begun either)
-  first_x = first.x_of-x-in-2-to-3.ensures
+  first_x : first.x_of-x.result ≡ its_x (begun either)
+  first_x = first.x_of-x.ensures
 
-  first_decides : c.decides.result ≡ beq (verdict_in first.decide-first.result) (eqb (its_kind (begun either)) 2)
-  first_decides = c.decides.ensures ∙ ap (λ (k : ℕ). beq (verdict_in first.decide-first.result) (eqb k 2)) (kind either)
+  first_decides : c.decides.result ≡ beq (verdict_in first.decide-first.result.0) (eqb (its_kind (begun either)) 2)
+  first_decides =
+      c.decides.ensures ∙
+      ap (beq (verdict_in first.decide-first.result.0))
+      (elim c.in-Or.is [
+        | inl e ↦
+            let h = rw e at c.eq.ensures in
+            ◌∙◌ {b = true} h (sym (eq-eqb (its_kind (begun either)) 2 (is either (sym c.in-Ok.ensures ∙ ap node_kind_number e))))
+        | inr e ↦
+            let h = rw e at c.eq.ensures in
+            let k : its_kind (begun either) ≡ 3 = is either (sym c.in-Ok.ensures ∙ ap node_kind_number e) in
+            ◌∙◌ {b = false} h (sym (ne_eqb (its_kind (begun either)) 2 (λ q. omega arith)))
+      ])
 
 module _ {t : ℕ} (c : decide-After-decide-second t) where
   abbrev not_yet : decide-After-decides t
@@ -177,22 +196,26 @@ module _ {t : ℕ} (c : decide-After-decide-second t) where
   both_kept = c.decide-second.auto.table ∙ (first not_yet).decide-first.auto.table
 
 -- ---- a binder: the mark under which its child is decided
-module _ {t : ℕ} (c : decide-In-7-to-8 t) where
-  binder_low : 7 ≤ its_kind (begun (goal.at.decide-In-7-to-8 t c).After-kind_of-k)
-  binder_low = omega (arith, kind (goal.at.decide-In-7-to-8 t c).After-kind_of-k, c.in-7-to-8.if-k-lt4-own.false, c.in-7-to-8.in_default-own.rest)
+module _ {t : ℕ} (c : decide-In-Least t) where
+  its_binding : (7 ≤ its_kind (begun (goal.at.decide-In-Least t c).After-kind_of-k)) × (its_kind (begun (goal.at.decide-In-Least t c).After-kind_of-k) ≤ 8)
+  its_binding =
+      between_kinds node_kind_number c.in-Ok.kind Kind.Least Kind.Greatest _ (c.in-Ok.ensures ∙ kind (goal.at.decide-In-Least t c).After-kind_of-k) (omega arith) c.in-Least.is
 
-  binder_high : its_kind (begun (goal.at.decide-In-7-to-8 t c).After-kind_of-k) < 9
-  binder_high = omega (arith, kind (goal.at.decide-In-7-to-8 t c).After-kind_of-k, c.in-7-to-8.if-k-lt9-own.true)
+  binder_low : 7 ≤ its_kind (begun (goal.at.decide-In-Least t c).After-kind_of-k)
+  binder_low = its_binding.0
+
+  binder_high : its_kind (begun (goal.at.decide-In-Least t c).After-kind_of-k) < 9
+  binder_high = omega (arith, its_binding.1)
 
 module _ {t : ℕ} (c : decide-After-opening-inner t) where
-  abbrev binder : decide-In-7-to-8 t
-  binder = (goal.at.decide-After-opening-inner t c).In-7-to-8
+  abbrev binder : decide-In-Least t
+  binder = (goal.at.decide-After-opening-inner t c).In-Least
 
   abbrev fixpoint : decide-After-kind_of-k t
-  fixpoint = (goal.at.decide-In-7-to-8 t binder).After-kind_of-k
+  fixpoint = (goal.at.decide-In-Least t binder).After-kind_of-k
 
   mark_is : c.opening-inner.result ≡ opened (its_x (begun fixpoint)) (begun fixpoint).args.mark
-  mark_is = c.opening-inner.ensures ∙ ap (λ (k : ℕ). opened k (begun fixpoint).args.mark) c.x_of-x-in-7-to-8.ensures
+  mark_is = c.opening-inner.ensures ∙ ap (λ (k : ℕ). opened k (begun fixpoint).args.mark) c.x_of-x-in-Least.ensures
 
 -- ---- looking the cell up
 pub decide-bounds-table-at : goal.decide-bounds-table-at
@@ -205,79 +228,79 @@ pub decide-kind_of-k-requires : goal.decide-kind_of-k-requires
 decide-kind_of-k-requires t c = calls.node_at (asked (goal.at.decide-kind_of-k-requires t c).Start)
 
 -- ---- false, true and an unknown kind
+pub decide-fill_cell-requires-in-False : goal.decide-fill_cell-requires-in-False
+decide-fill_cell-requires-in-False t c = (still (goal.at.decide-fill_cell-requires-in-False t c).After-kind_of-k refl, omega arith)
+
+pub decide-returns-in-False : goal.decide-returns-in-False
+decide-returns-in-False t c =
+    let k = c in
+    answers.answer_false (here (goal.at.decide-returns-in-False t c).After-kind_of-k) (empty (goal.at.decide-returns-in-False t c).After-kind_of-k) (is (goal.at.decide-returns-in-False t c).After-kind_of-k (sym c.in-Ok.ensures ∙ ap node_kind_number c.in-False.is))
+    (c.fill_cell-in-False.ensures.one_visit_more, c.fill_cell-in-False.ensures.table_after)
+
+pub decide-fill_cell-requires-in-True : goal.decide-fill_cell-requires-in-True
+decide-fill_cell-requires-in-True t c = (still (goal.at.decide-fill_cell-requires-in-True t c).After-kind_of-k refl, omega arith)
+
+pub decide-returns-in-True : goal.decide-returns-in-True
+decide-returns-in-True t c =
+    let k = c in
+    answers.answer_true (here (goal.at.decide-returns-in-True t c).After-kind_of-k) (empty (goal.at.decide-returns-in-True t c).After-kind_of-k) (is (goal.at.decide-returns-in-True t c).After-kind_of-k (sym c.in-Ok.ensures ∙ ap node_kind_number c.in-True.is))
+    (c.fill_cell-in-True.ensures.one_visit_more, c.fill_cell-in-True.ensures.table_after)
+
 pub decide-fill_cell-requires : goal.decide-fill_cell-requires
 decide-fill_cell-requires t c = (still (goal.at.decide-fill_cell-requires t c).After-kind_of-k refl, omega arith)
-
-pub decide-returns-in-0 : goal.decide-returns-in-0
-decide-returns-in-0 t c =
-    let k = c in
-    answers.answer_false (here (goal.at.decide-returns-in-0 t c).After-kind_of-k) (empty (goal.at.decide-returns-in-0 t c).After-kind_of-k) (is (goal.at.decide-returns-in-0 t c).After-kind_of-k c.in-0.is)
-    (c.fill_cell.ensures.one_visit_more, c.fill_cell.ensures.table_after)
-
-pub decide-fill_cell-requires-in-1 : goal.decide-fill_cell-requires-in-1
-decide-fill_cell-requires-in-1 t c = (still (goal.at.decide-fill_cell-requires-in-1 t c).After-kind_of-k refl, omega arith)
-
-pub decide-returns-in-1 : goal.decide-returns-in-1
-decide-returns-in-1 t c =
-    let k = c in
-    answers.answer_true (here (goal.at.decide-returns-in-1 t c).After-kind_of-k) (empty (goal.at.decide-returns-in-1 t c).After-kind_of-k) (is (goal.at.decide-returns-in-1 t c).After-kind_of-k c.in-1.is)
-    (c.fill_cell-in-1.ensures.one_visit_more, c.fill_cell-in-1.ensures.table_after)
-
-pub decide-fill_cell-requires-in_default : goal.decide-fill_cell-requires-in_default
-decide-fill_cell-requires-in_default t c = (still (goal.at.decide-fill_cell-requires-in_default t c).After-kind_of-k refl, omega arith)
 
 pub decide-returns-in_default : goal.decide-returns-in_default
 decide-returns-in_default t c =
     let k = c in
-    answers.answer_unknown (here (goal.at.decide-returns-in_default t c).After-kind_of-k) (empty (goal.at.decide-returns-in_default t c).After-kind_of-k) (omega (arith, kind (goal.at.decide-returns-in_default t c).After-kind_of-k, c.in_default.if-k-lt9-own.false))
-    (c.fill_cell-in_default.ensures.one_visit_more, c.fill_cell-in_default.ensures.table_after)
+    answers.answer_unknown (here (goal.at.decide-returns-in_default t c).After-kind_of-k) (empty (goal.at.decide-returns-in_default t c).After-kind_of-k) (omega (arith, kind (goal.at.decide-returns-in_default t c).After-kind_of-k, c.in_default.ensures.1))
+    (c.fill_cell.ensures.one_visit_more, c.fill_cell.ensures.table_after)
 
 -- ---- some and every
 pub decide-follow-w-requires : goal.decide-follow-w-requires
 decide-follow-w-requires t c =
     let k = c in
-    let e = is (goal.at.decide-follow-w-requires t c).After-kind_of-k c.in-4.is in
+    let e = is (goal.at.decide-follow-w-requires t c).After-kind_of-k (sym c.in-Ok.ensures ∙ ap node_kind_number c.in-Diamond.is) in
     let w = called_walk (begun (goal.at.decide-follow-w-requires t c).After-kind_of-k) (omega arith) (omega arith) in
     (w.0, (w.1, sym (eq-eqb (its_kind (begun (goal.at.decide-follow-w-requires t c).After-kind_of-k)) 4 e)))
 
-pub decide-fill_cell-requires-in-4 : goal.decide-fill_cell-requires-in-4
-decide-fill_cell-requires-in-4 t c =
+pub decide-fill_cell-requires-in-Diamond : goal.decide-fill_cell-requires-in-Diamond
+decide-fill_cell-requires-in-Diamond t c =
     let w = c in
-    (still (some (goal.at.decide-fill_cell-requires-in-4 t c).After-follow-w) w.follow-w.auto.table, w.follow-w.ensures.small)
+    (still (some (goal.at.decide-fill_cell-requires-in-Diamond t c).After-follow-w) w.follow-w.auto.table, w.follow-w.ensures.small)
 
-pub decide-returns-in-4 : goal.decide-returns-in-4
-decide-returns-in-4 t c =
+pub decide-returns-in-Diamond : goal.decide-returns-in-Diamond
+decide-returns-in-Diamond t c =
     let w = c in
-    let e = is_some (goal.at.decide-returns-in-4 t c).After-follow-w in
-    answers.answer_modal (here (some (goal.at.decide-returns-in-4 t c).After-follow-w)) (empty (some (goal.at.decide-returns-in-4 t c).After-follow-w)) (omega arith) (omega arith) w.follow-w.ensures
-    (c.fill_cell-in-4.ensures.one_visit_more, c.fill_cell-in-4.ensures.table_after)
+    let e = is_some (goal.at.decide-returns-in-Diamond t c).After-follow-w in
+    answers.answer_modal (here (some (goal.at.decide-returns-in-Diamond t c).After-follow-w)) (empty (some (goal.at.decide-returns-in-Diamond t c).After-follow-w)) (omega arith) (omega arith) w.follow-w.ensures
+    (c.fill_cell-in-Diamond.ensures.one_visit_more, c.fill_cell-in-Diamond.ensures.table_after)
 
-pub decide-follow-w-requires-in-5 : goal.decide-follow-w-requires-in-5
-decide-follow-w-requires-in-5 t c =
+pub decide-follow-w-requires-in-Box : goal.decide-follow-w-requires-in-Box
+decide-follow-w-requires-in-Box t c =
     let k = c in
-    let e = is (goal.at.decide-follow-w-requires-in-5 t c).After-kind_of-k c.in-5.is in
-    let w = called_walk (begun (goal.at.decide-follow-w-requires-in-5 t c).After-kind_of-k) (omega arith) (omega arith) in
-    (w.0, (w.1, sym (ne_eqb (its_kind (begun (goal.at.decide-follow-w-requires-in-5 t c).After-kind_of-k)) 4 (omega arith))))
+    let e = is (goal.at.decide-follow-w-requires-in-Box t c).After-kind_of-k (sym c.in-Ok.ensures ∙ ap node_kind_number c.in-Box.is) in
+    let w = called_walk (begun (goal.at.decide-follow-w-requires-in-Box t c).After-kind_of-k) (omega arith) (omega arith) in
+    (w.0, (w.1, sym (ne_eqb (its_kind (begun (goal.at.decide-follow-w-requires-in-Box t c).After-kind_of-k)) 4 (omega arith))))
 
-pub decide-fill_cell-requires-in-5 : goal.decide-fill_cell-requires-in-5
-decide-fill_cell-requires-in-5 t c =
+pub decide-fill_cell-requires-in-Box : goal.decide-fill_cell-requires-in-Box
+decide-fill_cell-requires-in-Box t c =
     let w = c in
-    (still (every (goal.at.decide-fill_cell-requires-in-5 t c).After-follow-w-in-5) w.follow-w-in-5.auto.table, w.follow-w-in-5.ensures.small)
+    (still (every (goal.at.decide-fill_cell-requires-in-Box t c).After-follow-w-in-Box) w.follow-w-in-Box.auto.table, w.follow-w-in-Box.ensures.small)
 
-pub decide-returns-in-5 : goal.decide-returns-in-5
-decide-returns-in-5 t c =
+pub decide-returns-in-Box : goal.decide-returns-in-Box
+decide-returns-in-Box t c =
     let w = c in
-    let e = is_every (goal.at.decide-returns-in-5 t c).After-follow-w-in-5 in
-    answers.answer_modal (here (every (goal.at.decide-returns-in-5 t c).After-follow-w-in-5)) (empty (every (goal.at.decide-returns-in-5 t c).After-follow-w-in-5)) (omega arith) (omega arith) w.follow-w-in-5.ensures
-    (c.fill_cell-in-5.ensures.one_visit_more, c.fill_cell-in-5.ensures.table_after)
+    let e = is_every (goal.at.decide-returns-in-Box t c).After-follow-w-in-Box in
+    answers.answer_modal (here (every (goal.at.decide-returns-in-Box t c).After-follow-w-in-Box)) (empty (every (goal.at.decide-returns-in-Box t c).After-follow-w-in-Box)) (omega arith) (omega arith) w.follow-w-in-Box.ensures
+    (c.fill_cell-in-Box.ensures.one_visit_more, c.fill_cell-in-Box.ensures.table_after)
 
 -- ---- a variable
-pub decide-x_of-x-requires : goal.decide-x_of-x-requires
-decide-x_of-x-requires t c = calls.node_at (asked (begun (goal.at.decide-x_of-x-requires t c).After-kind_of-k))
+pub decide-x_of-x-requires-in-Variable : goal.decide-x_of-x-requires-in-Variable
+decide-x_of-x-requires-in-Variable t c = calls.node_at (asked (begun (goal.at.decide-x_of-x-requires-in-Variable t c).After-kind_of-k))
 
 pub decide-binder_of-binder-requires : goal.decide-binder_of-binder-requires
 decide-binder_of-binder-requires t c =
-    calls.binder_asked (asked (begun (goal.at.decide-binder_of-binder-requires t c).After-kind_of-k)) (is (goal.at.decide-binder_of-binder-requires t c).After-kind_of-k c.in-6.is) c.x_of-x.ensures
+    calls.binder_asked (asked (begun (goal.at.decide-binder_of-binder-requires t c).After-kind_of-k)) (is (goal.at.decide-binder_of-binder-requires t c).After-kind_of-k (sym c.in-Ok.ensures ∙ ap node_kind_number c.in-Variable.is)) c.x_of-x-in-Variable.ensures
 
 pub decide-decide-w-requires : goal.decide-decide-w-requires
 decide-decide-w-requires t c =
@@ -303,27 +326,27 @@ decide-kind_of-requires t c =
     let v = c in
     calls.binder_at (asked (begun (variable (goal.at.decide-kind_of-requires t c).After-binder_of-binder))) (is_variable (goal.at.decide-kind_of-requires t c).After-binder_of-binder) (x_is (goal.at.decide-kind_of-requires t c).After-binder_of-binder) v.binder_of-binder.ensures
 
-pub decide-fill_cell-requires-in-6 : goal.decide-fill_cell-requires-in-6
-decide-fill_cell-requires-in-6 t c =
+pub decide-fill_cell-requires-in-Variable : goal.decide-fill_cell-requires-in-Variable
+decide-fill_cell-requires-in-Variable t c =
     let w = c in
-    (still (variable (inner (goal.at.decide-fill_cell-requires-in-6 t c).After-packed_constant-w)) refl, omega (arith, w.packed_constant-w.ensures.1))
+    (still (variable (inner (goal.at.decide-fill_cell-requires-in-Variable t c).After-constant-w)) refl, omega (arith, w.constant-w.ensures.1))
 
 pub decide-returns-else-is_outer : goal.decide-returns-else-is_outer
 decide-returns-else-is_outer t c =
     let w = c in
-    let v = inner (goal.at.decide-returns-else-is_outer t c).After-packed_constant-w in
-    answers.answer_constant (here (variable v)) (empty (variable v)) (x_is v) (is_variable v) (is_inner (goal.at.decide-returns-else-is_outer t c).After-packed_constant-w) (constant_is (goal.at.decide-returns-else-is_outer t c).After-packed_constant-w)
-    (c.fill_cell-in-6.ensures.one_visit_more, c.fill_cell-in-6.ensures.table_after)
+    let v = inner (goal.at.decide-returns-else-is_outer t c).After-constant-w in
+    answers.answer_constant (here (variable v)) (empty (variable v)) (x_is v) (is_variable v) (is_inner (goal.at.decide-returns-else-is_outer t c).After-constant-w) (constant_is (goal.at.decide-returns-else-is_outer t c).After-constant-w)
+    (c.fill_cell-in-Variable.ensures.one_visit_more, c.fill_cell-in-Variable.ensures.table_after)
 
 -- ---- or and and
-pub decide-x_of-x-requires-in-2-to-3 : goal.decide-x_of-x-requires-in-2-to-3
-decide-x_of-x-requires-in-2-to-3 t c = calls.node_at (asked (begun (goal.at.decide-x_of-x-requires-in-2-to-3 t c).After-kind_of-k))
+pub decide-x_of-x-requires : goal.decide-x_of-x-requires
+decide-x_of-x-requires t c = calls.node_at (asked (begun (goal.at.decide-x_of-x-requires t c).After-kind_of-k))
 
 pub decide-decide-first-requires : goal.decide-decide-first-requires
 decide-decide-first-requires t c =
     let p = c in
     let s = begun (goal.at.decide-decide-first-requires t c).After-kind_of-k in
-    called s (calls.call_first (asked s) (asked s).room c.x_of-x-in-2-to-3.ensures (pair_low (goal.at.decide-decide-first-requires t c).In-2-to-3) (pair_high (goal.at.decide-decide-first-requires t c).In-2-to-3))
+    called s (calls.call_first (asked s) (asked s).room c.x_of-x.ensures (pair_low (goal.at.decide-decide-first-requires t c).In-Or) (pair_high (goal.at.decide-decide-first-requires t c).In-Or))
 
 pub decide-fill_cell-requires-then-decides : goal.decide-fill_cell-requires-then-decides
 decide-fill_cell-requires-then-decides t c =
@@ -348,16 +371,16 @@ decide-decide-second-requires t c =
     omega (arith, (first (goal.at.decide-decide-second-requires t c).After-decides).decide-first.auto.table, (asked s).room) in
     called s (calls.call_second (asked s) room c.y_of-y.ensures (pair_low (pair (goal.at.decide-decide-second-requires t c).After-decides)) (pair_high (pair (goal.at.decide-decide-second-requires t c).After-decides)))
 
-pub decide-add_visits-w-requires : goal.decide-add_visits-w-requires
-decide-add_visits-w-requires t c =
+pub decide-then-w-requires : goal.decide-then-w-requires
+decide-then-w-requires t c =
     let d = c in
-    (omega (arith, (first (not_yet (goal.at.decide-add_visits-w-requires t c).After-decide-second)).decide-first.ensures.small), omega (arith, d.decide-second.ensures.small))
+    (omega (arith, (first (not_yet (goal.at.decide-then-w-requires t c).After-decide-second)).decide-first.ensures.small), omega (arith, d.decide-second.ensures.small))
 
-pub decide-fill_cell-requires-in-2-to-3 : goal.decide-fill_cell-requires-in-2-to-3
-decide-fill_cell-requires-in-2-to-3 t c =
+pub decide-fill_cell-requires-in-Or : goal.decide-fill_cell-requires-in-Or
+decide-fill_cell-requires-in-Or t c =
     let d = c in (
-      still (either (not_yet (goal.at.decide-fill_cell-requires-in-2-to-3 t c).After-decide-second)) (both_kept (goal.at.decide-fill_cell-requires-in-2-to-3 t c).After-decide-second),
-      omega (arith, c.add_visits-w.ensures.small, (first (not_yet (goal.at.decide-fill_cell-requires-in-2-to-3 t c).After-decide-second)).decide-first.ensures.small, d.decide-second.ensures.small),
+      still (either (not_yet (goal.at.decide-fill_cell-requires-in-Or t c).After-decide-second)) (both_kept (goal.at.decide-fill_cell-requires-in-Or t c).After-decide-second),
+      omega (arith, c.then-w.ensures.small, (first (not_yet (goal.at.decide-fill_cell-requires-in-Or t c).After-decide-second)).decide-first.ensures.small, d.decide-second.ensures.small),
     )
 
 pub decide-returns-else-decides : goal.decide-returns-else-decides
@@ -367,39 +390,39 @@ decide-returns-else-decides t c =
     answers.answer_second (here (either p)) (empty (either p)) (first_x p) (pair_low (pair p)) (pair_high (pair p))
     (first p).decide-first.ensures (sym (first_decides p) ∙ d.if-decides.false)
     d.y_of-y.ensures d.decide-second.ensures
-    c.add_visits-w.ensures (c.fill_cell-in-2-to-3.ensures.one_visit_more, c.fill_cell-in-2-to-3.ensures.table_after)
+    c.then-w.ensures (c.fill_cell-in-Or.ensures.one_visit_more, c.fill_cell-in-Or.ensures.table_after)
 
 -- ---- a binder
-pub decide-x_of-x-requires-in-7-to-8 : goal.decide-x_of-x-requires-in-7-to-8
-decide-x_of-x-requires-in-7-to-8 t c = calls.node_at (asked (begun (goal.at.decide-x_of-x-requires-in-7-to-8 t c).After-kind_of-k))
+pub decide-x_of-x-requires-in-Least : goal.decide-x_of-x-requires-in-Least
+decide-x_of-x-requires-in-Least t c = calls.node_at (asked (begun (goal.at.decide-x_of-x-requires-in-Least t c).After-kind_of-k))
 
-pub decide-y_of-y-requires-in-7-to-8 : goal.decide-y_of-y-requires-in-7-to-8
-decide-y_of-y-requires-in-7-to-8 t c = calls.node_at (asked (begun (goal.at.decide-y_of-y-requires-in-7-to-8 t c).After-kind_of-k))
+pub decide-y_of-y-requires-in-Least : goal.decide-y_of-y-requires-in-Least
+decide-y_of-y-requires-in-Least t c = calls.node_at (asked (begun (goal.at.decide-y_of-y-requires-in-Least t c).After-kind_of-k))
 
 pub decide-opening-inner-requires : goal.decide-opening-inner-requires
 decide-opening-inner-requires t c =
     let b = c in
-    omega (arith, c.x_of-x-in-7-to-8.ensures, calls.binder_x (asked (begun (goal.at.decide-opening-inner-requires t c).After-kind_of-k)) (binder_low (goal.at.decide-opening-inner-requires t c).In-7-to-8) (binder_high (goal.at.decide-opening-inner-requires t c).In-7-to-8))
+    omega (arith, c.x_of-x-in-Least.ensures, calls.binder_x (asked (begun (goal.at.decide-opening-inner-requires t c).After-kind_of-k)) (binder_low (goal.at.decide-opening-inner-requires t c).In-Least) (binder_high (goal.at.decide-opening-inner-requires t c).In-Least))
 
-pub decide-decide-w-requires-in-7-to-8 : goal.decide-decide-w-requires-in-7-to-8
-decide-decide-w-requires-in-7-to-8 t c =
+pub decide-decide-w-requires-in-Least : goal.decide-decide-w-requires-in-Least
+decide-decide-w-requires-in-Least t c =
     let o = c in
-    let s = begun (fixpoint (goal.at.decide-decide-w-requires-in-7-to-8 t c).After-opening-inner) in
-    let b = binder (goal.at.decide-decide-w-requires-in-7-to-8 t c).After-opening-inner in
-    called s (calls.call_body (asked s) (asked s).room (mark_is (goal.at.decide-decide-w-requires-in-7-to-8 t c).After-opening-inner) o.y_of-y-in-7-to-8.ensures (binder_low b) (binder_high b))
+    let s = begun (fixpoint (goal.at.decide-decide-w-requires-in-Least t c).After-opening-inner) in
+    let b = binder (goal.at.decide-decide-w-requires-in-Least t c).After-opening-inner in
+    called s (calls.call_body (asked s) (asked s).room (mark_is (goal.at.decide-decide-w-requires-in-Least t c).After-opening-inner) o.y_of-y-in-Least.ensures (binder_low b) (binder_high b))
 
-pub decide-fill_cell-requires-in-7-to-8 : goal.decide-fill_cell-requires-in-7-to-8
-decide-fill_cell-requires-in-7-to-8 t c =
+pub decide-fill_cell-requires-in-Least : goal.decide-fill_cell-requires-in-Least
+decide-fill_cell-requires-in-Least t c =
     let d = c in
-    (still (fixpoint (goal.at.decide-fill_cell-requires-in-7-to-8 t c).After-opening-inner) d.decide-w-in-7-to-8.auto.table, omega (arith, d.decide-w-in-7-to-8.ensures.small))
+    (still (fixpoint (goal.at.decide-fill_cell-requires-in-Least t c).After-opening-inner) d.decide-w-in-Least.auto.table, omega (arith, d.decide-w-in-Least.ensures.small))
 
-pub decide-returns-in-7-to-8 : goal.decide-returns-in-7-to-8
-decide-returns-in-7-to-8 t c =
+pub decide-returns-in-Least : goal.decide-returns-in-Least
+decide-returns-in-Least t c =
     let o = c in
-    let k = fixpoint (goal.at.decide-returns-in-7-to-8 t c).After-opening-inner in
-    let b = binder (goal.at.decide-returns-in-7-to-8 t c).After-opening-inner in
-    answers.answer_body (here k) (empty k) (mark_is (goal.at.decide-returns-in-7-to-8 t c).After-opening-inner) o.y_of-y-in-7-to-8.ensures (binder_low b) (binder_high b)
-    c.decide-w-in-7-to-8.ensures (c.fill_cell-in-7-to-8.ensures.one_visit_more, c.fill_cell-in-7-to-8.ensures.table_after)
+    let k = fixpoint (goal.at.decide-returns-in-Least t c).After-opening-inner in
+    let b = binder (goal.at.decide-returns-in-Least t c).After-opening-inner in
+    answers.answer_body (here k) (empty k) (mark_is (goal.at.decide-returns-in-Least t c).After-opening-inner) o.y_of-y-in-Least.ensures (binder_low b) (binder_high b)
+    c.decide-w-in-Least.ensures (c.fill_cell-in-Least.ensures.one_visit_more, c.fill_cell-in-Least.ensures.table_after)
 
 -- ---- following
 
@@ -434,7 +457,7 @@ module _ {t : ℕ} (c : follow-At-loop-i t) where
   abbrev end : ℕ
   end = c.transitions_end-i-end.result
 
-  walked : WalkedTo (walk_sheet walk_begin) (walk_table walk_begin) (walk_node walk_begin) (state walk_begin) walk_first end c.loop-i.i c.loop-i.sum c.loop-i.table
+  walked : WalkedTo (walk_sheet walk_begin) (walk_table walk_begin) (walk_node walk_begin) (state walk_begin) walk_first end c.loop-i.i c.loop-i.sum.0 c.loop-i.table
   walked = c.loop-i.invariant
 
 module _ {t : ℕ} (c : follow-In-loop-i t) where
@@ -467,7 +490,7 @@ module _ {t : ℕ} (c : follow-After-decide-w t) where
   child_is_lem : (loop (turn tested)).y_of.result ≡ y_at (walk_sheet (entry tested)) (walk_node (entry tested))
   child_is_lem = (loop (turn tested)).y_of.ensures
 
-  to_add : ((loop (turn tested)).loop-i.sum < 1000000000) × (c.decide-w.result < 1000000000)
+  to_add : ((loop (turn tested)).loop-i.sum.0 < 1000000000) × (c.decide-w.result.0 < 1000000000)
   to_add = (sum_small (walked (loop (turn tested))), omega (arith, c.decide-w.ensures.small))
 
 module _ {t : ℕ} (c : follow-After-decides t) where
@@ -475,8 +498,8 @@ module _ {t : ℕ} (c : follow-After-decides t) where
   decided = (goal.at.follow-After-decides t c).After-decide-w
 
   deciding : c.decides.result
-      ≡ beq (verdict_in decided.decide-w.result) (eqb (kind_at (walk_sheet (entry (tested decided))) (walk_node (entry (tested decided)))) 4)
-  deciding = c.decides.ensures ∙ ap (beq (verdict_in decided.decide-w.result)) (entry (tested decided)).requires.1
+      ≡ beq (verdict_in decided.decide-w.result.0) (eqb (kind_at (walk_sheet (entry (tested decided))) (walk_node (entry (tested decided)))) 4)
+  deciding = c.decides.ensures ∙ ap (beq (verdict_in decided.decide-w.result.0)) (entry (tested decided)).requires.1
 
 -- ---- before the loop
 pub follow-x_of-entry-requires : goal.follow-x_of-entry-requires
@@ -506,8 +529,8 @@ follow-decide-w-requires t c =
     c.target_of.ensures in
     (omega (arith, w.0, (entry (goal.at.follow-decide-w-requires t c).After-has_bit).decreases), w.1)
 
-pub follow-add_visits-sum-requires : goal.follow-add_visits-sum-requires
-follow-add_visits-sum-requires t c = to_add (goal.at.follow-add_visits-sum-requires t c).After-decide-w
+pub follow-then-sum-requires : goal.follow-then-sum-requires
+follow-then-sum-requires t c = to_add (goal.at.follow-then-sum-requires t c).After-decide-w
 
 pub follow-returns-then-decides : goal.follow-returns-then-decides
 follow-returns-then-decides t c =
@@ -515,7 +538,7 @@ follow-returns-then-decides t c =
     let d = decided v in
     let m = tested d in
     turn_decided (walk_asked (entry m)) (walked (loop (turn m))) (turn m).loop-i-test.true (child_is_lem d) d.target_of.ensures
-    (is_met d) d.decide-w.ensures (sym (deciding v) ∙ c.if-decides.true) c.add_visits-sum.ensures
+    (is_met d) d.decide-w.ensures (sym (deciding v) ∙ c.if-decides.true) c.then-sum.ensures
 
 pub follow-loop-i-preserved : goal.follow-loop-i-preserved
 follow-loop-i-preserved t c =
@@ -527,17 +550,17 @@ follow-loop-i-preserved t c =
       | follow-then-has_bit+else-decides b ↦
           rw (b.sum-is, b.table-is)
           (turn_on s w more c.y_of.ensures b.target_of.ensures (sym (meeting m) ∙ b.if-has_bit.true) b.decide-w.ensures
-          (sym (b.decides.ensures ∙ ap (beq (verdict_in b.decide-w.result)) (entry m).requires.1) ∙ b.if-decides.false) b.add_visits-sum.ensures b.decide-w.auto.table)
+          (sym (b.decides.ensures ∙ ap (beq (verdict_in b.decide-w.result.0)) (entry m).requires.1) ∙ b.if-decides.false) b.then-sum.ensures b.decide-w.auto.table)
       | follow-else-has_bit b ↦ rw (b.sum-is, b.table-is) (turn_past s w more (sym (meeting m) ∙ b.if-has_bit.false))
     ]
 
 -- ---- after the loop
-pub follow-add_visits-requires : goal.follow-add_visits-requires
-follow-add_visits-requires t c = (sum_small (walked (goal.at.follow-add_visits-requires t c).At-loop-i), omega (arith, c.packed_constant.ensures.1))
+pub follow-then-requires : goal.follow-then-requires
+follow-then-requires t c = (sum_small (walked (goal.at.follow-then-requires t c).At-loop-i), omega (arith, c.constant.ensures.1))
 
 pub follow-returns : goal.follow-returns
 follow-returns t c =
     let l = c in
     let s = walk_begin (goal.at.follow-returns t c).At-loop-i in
-    walk_finish (walk_asked s) (walked (goal.at.follow-returns t c).At-loop-i) c.loop-i-test.false s.requires.1 c.packed_constant.ensures
-    c.add_visits.ensures
+    walk_finish (walk_asked s) (walked (goal.at.follow-returns t c).At-loop-i) c.loop-i-test.false s.requires.1 c.constant.ensures
+    c.then.ensures

@@ -11,9 +11,6 @@ returns-then-is c =
     (sym c.is.ensures ∙ c.if-is.true)
     ∙ ap (label_number a.label.now) c.self.view_is
 
-pub slice_bounds-search-end : goal.slice_bounds-search-end
-slice_bounds-search-end c = omega (arith, c.self.invariant.array, c.self.invariant.within)
-
 pub returns : goal.returns
 returns c =
     let a = c.args in
