@@ -2,24 +2,17 @@
 ghost use Rattle.std.specs.Prelude.{◌≡◌, ◌<◌};
 ghost use Rattle.patterns.specs.Internal.Nodes.{Movable, moved, pair_fields, modal_fields, variable_fields, binder_fields};
 
+use sheet::kinds::NodeKind;
 use sheet::{Fields, Node, Variable};
-
-// The kinds of nodes as a rule body has them; the mirror's is one more.
-const OR: u8 = 2;
-
-const SOME: u8 = 4;
-
-const VARIABLE: u8 = 6;
-
-const LEAST: u8 = 7;
 
 // An "or" at node n, whose first child's nodes end before m: there its second child comes, where there is room, so m is a plain number.
 pub(crate) fn pair(every: bool, n: Node, m: u8) -> Fields
     requires { n.0 < 64 }
     ensures { result ≡ pair_fields every n.0 m }
 {
+    let kind = if every { NodeKind::And } else { NodeKind::Or };
     Fields {
-        kind: OR + u8::from(every),
+        kind: kind as u8,
         x: n.0 + 1,
         y: m,
     }
@@ -30,8 +23,13 @@ pub(crate) fn modal(every: bool, n: Node, entry: u8) -> Fields
     requires { n.0 < 64 }
     ensures { result ≡ modal_fields every n.0 entry }
 {
+    let kind = if every {
+        NodeKind::Box
+    } else {
+        NodeKind::Diamond
+    };
     Fields {
-        kind: SOME + u8::from(every),
+        kind: kind as u8,
         x: entry,
         y: n.0 + 1,
     }
@@ -41,7 +39,7 @@ pub(crate) fn variable(x: Variable) -> Fields
     ensures { result ≡ variable_fields x.0 }
 {
     Fields {
-        kind: VARIABLE,
+        kind: NodeKind::Variable as u8,
         x: x.0,
         y: 0,
     }
@@ -52,8 +50,13 @@ pub(crate) fn binder(every: bool, n: Node, x: Variable) -> Fields
     requires { n.0 < 64 }
     ensures { result ≡ binder_fields every n.0 x.0 }
 {
+    let kind = if every {
+        NodeKind::Greatest
+    } else {
+        NodeKind::Least
+    };
     Fields {
-        kind: LEAST + u8::from(every),
+        kind: kind as u8,
         x: x.0,
         y: n.0 + 1,
     }
