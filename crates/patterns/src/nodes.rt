@@ -62,32 +62,28 @@ pub(crate) fn binder(every: bool, n: Node, x: Variable) -> Fields
     }
 }
 
-// A node of the sheet's rule, whose kind is a byte of its body, where n nodes and b binders stand before the rule.
+// A node of the sheet's rule, where n nodes and b binders stand before the rule.
 pub(crate) fn moved(f: Fields, n: u8, b: u8) -> Fields
     requires { Movable f n b }
     ensures { result ≡ moved n b f }
 {
-    match f.kind {
-        0..=1 => f,
-        2..=3 => Fields {
-            kind: f.kind,
+    // An accepted rule has no number but those of the kinds.
+    let Ok(kind) = NodeKind::try_from(f.kind) else {
+        return f;
+    };
+    match kind {
+        NodeKind::False | NodeKind::True => f,
+        NodeKind::Or | NodeKind::And => Fields {
             x: f.x + n,
             y: f.y + n,
+            ..f
         },
-        4..=5 => Fields {
-            kind: f.kind,
-            x: f.x,
-            y: f.y + n,
-        },
-        6 => Fields {
-            kind: f.kind,
-            x: f.x + b,
-            y: f.y,
-        },
-        _ => Fields {
-            kind: f.kind,
+        NodeKind::Diamond | NodeKind::Box => Fields { y: f.y + n, ..f },
+        NodeKind::Variable => Fields { x: f.x + b, ..f },
+        NodeKind::Least | NodeKind::Greatest => Fields {
             x: f.x + b,
             y: f.y + n,
+            ..f
         },
     }
 }
