@@ -41,6 +41,7 @@ pub extern "C" fn child_count(kind: u8) -> %s {
 # every public function of the sheet crate but child_count, which an earlier revision need not have
 # and which the reader asks: so every function
 WHOLE = '''
+use sheet::kinds::{EntryKind, NodeKind};
 use sheet::{Node, Numbered, Variable};
 
 #[unsafe(no_mangle)]
@@ -101,6 +102,12 @@ pub extern "C" fn is_binder(rule: &[u8], i: u8) -> bool {
 #[unsafe(no_mangle)]
 pub extern "C" fn bound_before(rule: &[u8], k: u8, i: u8) -> bool {
     sheet::rule::bound_before(rule, Variable(k), Node(i))
+}
+
+#[unsafe(no_mangle)]
+pub extern "C" fn are_binders(node: u8, entry: u8) -> bool {
+    let least = matches!(NodeKind::try_from(node), Ok(NodeKind::Least | NodeKind::Greatest));
+    least && EntryKind::try_from(entry) == Ok(EntryKind::Not)
 }
 '''
 

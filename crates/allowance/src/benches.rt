@@ -45,7 +45,7 @@ pub(crate) fn would_answer(sheet: &[u8], state: State, table: &[u8]) -> Result<J
     }
 }
 
-// A query in the part of the buffer that is a bench's table.
+// A query in the part of the buffer that is a bench's table; the place and the size are given, since all tables are lent as one buffer.
 pub(crate) fn query_at(
     sheet: &[u8],
     state: State,

@@ -29,7 +29,8 @@ fn find_needs(
     Ok(())
 }
 
-// Each bench that is granted its whole need queries in its own table, unless that need is 0.
+// Each bench that is granted its whole need queries in its own table, unless that need is 0. What both functions take is no struct: the tables are shared in
+// one and lent to change in the other.
 fn query_granted(sheet: &[u8], states: &[u8], tables: &mut [u8], size: usize, benches: &mut [Bench])
     requires { QueriesRequire sheet.now states.now tables.old size benches.old }
     ensures { QueriesBenches sheet.now states.now tables.old (grants_in benches.old) benches.new tables.new }

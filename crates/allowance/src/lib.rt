@@ -15,7 +15,7 @@ use sheet::{Numbered, Refusal};
 pub const MOST_BENCHES: usize = 8;
 
 // Why a call is turned down: the number of benches is 0 or too large, or a bench's own refusal, of which a wrong count is one.
-#[derive(Clone, Copy)]
+#[derive(Clone, Copy, Debug, PartialEq, Eq)]
 pub enum GrantError {
     BenchCountWrong,
     WrongCount,

@@ -5,7 +5,7 @@ use Rattle.sheet.specs.Bytes.{pick}
 use Rattle.sheet.specs.Contents.{plan_body}
 use Rattle.sheet.specs.Refusals.{Check, number_of, place_of}
 use Rattle.rows.specs.Tables.{Result as CellResult, visits}
-use Rattle.judge.specs.Querying.{query_check, count_right, left_by}
+use Rattle.judge.specs.Querying.{error_number, error_place, query_check, count_right, left_by}
 use Rattle.judge.specs.InTurn.{holds_by, result_in_turn}
 use Rattle.closest.specs.Steps.{Reached, reachable_states}
 use Rattle.judge.specs.declared.QueryError.{QueryError}
@@ -91,8 +91,7 @@ reported_first (Some f) n = record { number = 0; place = 0; found = true; state 
 -- the parts of each answer
 abbrev pub reported_closest : ClosestAnswer → ClosestReport
 reported_closest (Ok c) = reported_first c.first c.visits
-reported_closest (Err WrongCount) = refused_report 35 0
-reported_closest (Err (Refused r)) = refused_report (number_of r) (place_of r)
+reported_closest (Err e) = refused_report (error_number e) (error_place e)
 
 -- what is reported for every sheet and table
 abbrev pub closest_report_of : List ℕ → List ℕ → ClosestReport

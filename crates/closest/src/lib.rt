@@ -12,14 +12,14 @@ pub mod tracing;
 use sheet::State;
 
 // Where the rule fails first, None where it holds at every state that can be reached; and how many cells were filled.
-#[derive(Clone, Copy)]
+#[derive(Clone, Copy, Debug, PartialEq, Eq)]
 pub struct Closest {
     pub first: Option<Failing>,
     pub visits: usize,
 }
 
 // A state at which the rule fails, and its steps from state 0.
-#[derive(Clone, Copy)]
+#[derive(Clone, Copy, Debug, PartialEq, Eq)]
 pub struct Failing {
     pub state: State,
     pub steps: u8,

@@ -14,7 +14,7 @@ use Rattle.rows.specs.Rows.{conjunction, joined, looked, value, need}
 use Rattle.rows.specs.Tables.{Result as CellResult, out, visits, count, fills, filling}
 use Rattle.judge.specs.Cells.{Cell, cell, enough, position_of, cell_at, cell_bytes, table_bytes, cells_in}
 use Rattle.judge.specs.OneSolution.{changed_rows}
-use Rattle.judge.specs.Querying.{bytes_right, count_right, left_by}
+use Rattle.judge.specs.Querying.{error_number, error_place, bytes_right, count_right, left_by}
 use Rattle.judge.specs.declared.JudgedInTurn.{JudgedInTurn}
 use Rattle.judge.specs.declared.QueryError.{QueryError}
 use Rattle.judge.specs.declared.QueryError.TheVariants.{WrongCount, Refused}
@@ -85,8 +85,7 @@ pub record InTurnReport : Type 0 where
 -- the parts of each answer
 abbrev pub reported_in_turn : InTurn → InTurnReport
 reported_in_turn (Ok j) = record { number = 0; place = 0; passed = j.passed; visits = j.visits }
-reported_in_turn (Err WrongCount) = record { number = 35; place = 0; passed = 0; visits = 0 }
-reported_in_turn (Err (Refused r)) = record { number = number_of r; place = place_of r; passed = 0; visits = 0 }
+reported_in_turn (Err e) = record { number = error_number e; place = error_place e; passed = 0; visits = 0 }
 
 -- what is reported for every sheet, list of states and table
 abbrev pub in_turn_report_of : List ℕ → List ℕ → List ℕ → InTurnReport

@@ -86,8 +86,7 @@ pub record QueryReport : Type 0 where
 -- number, place, verdict and visits of each answer
 abbrev pub reported_query : Queried → QueryReport
 reported_query (Ok j) = record { number = 0; place = 0; verdict = j.verdict; visits = j.visits }
-reported_query (Err WrongCount) = record { number = 35; place = 0; verdict = false; visits = 0 }
-reported_query (Err (Refused r)) = record { number = number_of r; place = place_of r; verdict = false; visits = 0 }
+reported_query (Err e) = record { number = error_number e; place = error_place e; verdict = false; visits = 0 }
 
 -- what a query reports for every sheet, state and table
 abbrev pub query_report_of : List ℕ → ℕ → List ℕ → QueryReport

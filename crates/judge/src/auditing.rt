@@ -1,7 +1,7 @@
 // The audit of a filled table: whether its count is right and its filled cells follow from one another. Nothing is changed.
 ghost use Rattle.judge.specs.Auditing.{Audits};
 
-use crate::consistency::table_passes;
+use crate::consistency::Rows;
 use crate::preparing::{prepare_rule, prepare_states};
 use crate::scanning::scan_states;
 use crate::table::{cell_bytes_prepared, number_at, table_bytes_for};
@@ -26,5 +26,10 @@ pub fn audit(sheet: &[u8], table: &[u8]) -> Result<bool, Refusal>
         return Err(Refusal::Loop);
     }
     let stored = number_at(table, cells);
-    Ok(stored as usize == filled && table_passes(sheet, &index, table, &starts))
+    let rows = Rows {
+        sheet,
+        index: &index,
+        table,
+    };
+    Ok(stored as usize == filled && rows.table_passes(&starts))
 }

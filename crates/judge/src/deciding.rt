@@ -10,7 +10,7 @@ use crate::index::{
     x_of, y_of,
 };
 use crate::marks::{is_outer, opening};
-use crate::packed::{add_visits, decides, packed_constant};
+use crate::packed::Packed;
 use crate::table::{cell_position, fill_cell, known_verdict};
 use calculus::meeting::has_bit;
 use sheet::kinds::NodeKind;
@@ -25,9 +25,9 @@ pub(crate) fn decide(
     mark: u8,
     node: Node,
     state: State,
-) -> u32
+) -> Packed
     requires { DecideRequires sheet.now index.now table.old (cell mark node.0 state.0) }
-    ensures { Decided sheet.now (cell mark node.0 state.0) table.old result table.new }
+    ensures { Decided sheet.now (cell mark node.0 state.0) table.old result.0 table.new }
 {
     let at = cell_position(index, mark, node, state);
     let filled = table[at];
@@ -36,20 +36,20 @@ pub(crate) fn decide(
     }
     let k = kind_of(sheet, index, node);
     let Ok(kind) = NodeKind::try_from(k) else {
-        return fill_cell(table, at, 0);
+        return fill_cell(table, at, Packed::FALSE);
     };
     match kind {
-        NodeKind::False => fill_cell(table, at, 0),
-        NodeKind::True => fill_cell(table, at, 1),
+        NodeKind::False => fill_cell(table, at, Packed::FALSE),
+        NodeKind::True => fill_cell(table, at, Packed::TRUE),
         NodeKind::Or | NodeKind::And => {
             let x = x_of(sheet, index, node);
             let first = decide(sheet, index, table, mark, Node(x), state);
-            if decides(kind == NodeKind::Or, first) {
+            if first.decides(kind == NodeKind::Or) {
                 return fill_cell(table, at, first);
             }
             let y = y_of(sheet, index, node);
             let second = decide(sheet, index, table, mark, Node(y), state);
-            let w = add_visits(first, second);
+            let w = first.then(second);
             fill_cell(table, at, w)
         }
         NodeKind::Diamond => {
@@ -67,7 +67,7 @@ pub(crate) fn decide(
                 let w = decide(sheet, index, table, 0, binder, state);
                 return fill_cell(table, at, w);
             }
-            let w = packed_constant(kind_of(sheet, index, binder) == 8);
+            let w = Packed::constant(kind_of(sheet, index, binder) == 8);
             fill_cell(table, at, w)
         }
         NodeKind::Least | NodeKind::Greatest => {
@@ -82,21 +82,28 @@ pub(crate) fn decide(
 
 // The cells that the transitions of a state lead to, in plan order, up to the first that decides; or says whether the node is a "some".
 #[cycle(decide_follow)]
-fn follow(sheet: &[u8], index: &Index, table: &mut [u8], node: Node, state: State, or: bool) -> u32
+fn follow(
+    sheet: &[u8],
+    index: &Index,
+    table: &mut [u8],
+    node: Node,
+    state: State,
+    or: bool,
+) -> Packed
     requires { FollowRequires sheet.now index.now table.old node.0 state.0 × (or ≡ (node_kind (rule_body sheet.now) node.0 == 4)) }
-    ensures { Followed sheet.now node.0 state.0 table.old result table.new }
+    ensures { Followed sheet.now node.0 state.0 table.old result.0 table.new }
 {
     let entry = x_of(sheet, index, node);
     let child = Node(y_of(sheet, index, node));
-    let mut sum = 0;
+    let mut sum = Packed::FALSE;
     for i in transitions_begin(index, state)..transitions_end(index, state) {
         if has_bit(mask_of(index, label_of(sheet, i)), entry) {
             let w = decide(sheet, index, table, 0, child, target_of(sheet, i));
-            sum = add_visits(sum, w);
-            if decides(or, w) {
+            sum = sum.then(w);
+            if w.decides(or) {
                 return sum;
             }
         }
     }
-    add_visits(sum, packed_constant(!or))
+    sum.then(Packed::constant(!or))
 }

@@ -8,10 +8,7 @@ use sheet::Variable;
 pub(crate) fn is_outer(k: Variable, mark: u8) -> bool
     ensures { result ≡ outer k.0 mark }
 {
-    if mark == 0 {
-        return true;
-    }
-    k.0 < mark - 1
+    mark == 0 || k.0 < mark - 1
 }
 
 // The mark under which the child of binder k is decided.
@@ -19,8 +16,5 @@ pub(crate) fn opening(k: Variable, mark: u8) -> u8
     requires { k.0 < 6 }
     ensures { result ≡ opened k.0 mark }
 {
-    if mark == 0 {
-        return k.0 + 1;
-    }
-    mark
+    if mark == 0 { k.0 + 1 } else { mark }
 }

@@ -5,7 +5,6 @@ ghost use Rattle.judge.specs.Querying.{Queries};
 use crate::counting::right_count;
 use crate::deciding::decide;
 use crate::index::Index;
-use crate::packed::{is_true, visits_of};
 use crate::preparing::{index_of, prepare};
 use crate::table::{cell_bytes_prepared, put_number};
 use crate::{Judged, QueryError};
@@ -26,11 +25,11 @@ fn judge_prepared(
     let cells = cell_bytes_prepared(sheet, index);
     let stored = right_count(table, cells)?;
     let w = decide(sheet, index, &mut table[..cells], 0, Node(0), state);
-    let visits = visits_of(w);
+    let visits = w.visits();
     let count = stored + visits as u32;
     put_number(table, cells, count);
     Ok(Judged {
-        verdict: is_true(w),
+        verdict: w.is_true(),
         visits,
     })
 }

@@ -9,7 +9,7 @@ ghost use Rattle.judge.specs.Internal.Packed.{Known, OneVisitMore, verdict_in, p
 
 use crate::COUNT_BYTES;
 use crate::index::Index;
-use crate::packed::is_true;
+use crate::packed::Packed;
 use sheet::plan::state_count;
 use sheet::reader::{plan_body, rule_body};
 use sheet::rule::{binder_count, node_count};
@@ -74,18 +74,18 @@ pub(crate) fn cell_position(index: &Index, mark: u8, node: Node, state: State) -
 }
 
 // What a filled byte says, with no visit.
-pub(crate) fn known_verdict(b: u8) -> u32
-    ensures { Known b result }
+pub(crate) fn known_verdict(b: u8) -> Packed
+    ensures { Known b result.0 }
 {
-    u32::from(b == 2)
+    Packed(u32::from(b == 2))
 }
 
 // The cell at a byte is given its value, and counts as one visit more.
-pub(crate) fn fill_cell(table: &mut [u8], at: usize, w: u32) -> u32
-    requires { (at < length table.old) × (w < packed_limit) }
-    ensures one_visit_more { OneVisitMore w result }
-    ensures table_after { table.new ≡ slice_set table.old at (byte_of (verdict_in w)) }
+pub(crate) fn fill_cell(table: &mut [u8], at: usize, w: Packed) -> Packed
+    requires { (at < length table.old) × (w.0 < packed_limit) }
+    ensures one_visit_more { OneVisitMore w.0 result.0 }
+    ensures table_after { table.new ≡ slice_set table.old at (byte_of (verdict_in w.0)) }
 {
-    table[at] = if is_true(w) { 2 } else { 1 };
-    w + 2
+    table[at] = if w.is_true() { 2 } else { 1 };
+    Packed(w.0 + 2)
 }

@@ -6,7 +6,6 @@ ghost use Rattle.judge.specs.Internal.Turns.{StatesMarked, EachPrepared, WalkReq
 use crate::counting::right_count;
 use crate::deciding::decide;
 use crate::index::Index;
-use crate::packed::{is_true, visits_of};
 use crate::preparing::{prepare_rule, prepare_states};
 use crate::table::{cell_bytes_prepared, put_number};
 use crate::{JudgedInTurn, QueryError};
@@ -38,8 +37,8 @@ fn walk_states(sheet: &[u8], index: &Index, states: &[u8], table: &mut [u8]) -> 
     let mut visits = 0;
     for (passed, state) in states.iter().enumerate() {
         let w = decide(sheet, index, table, 0, Node(0), State(*state));
-        visits += visits_of(w);
-        if !is_true(w) {
+        visits += w.visits();
+        if !w.is_true() {
             return JudgedInTurn { passed, visits };
         }
     }

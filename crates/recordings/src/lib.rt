@@ -15,14 +15,14 @@ ghost use Rattle.recordings.specs.declared.RecordingError.TheVariants.{Refused};
 use sheet::{Numbered, Refusal};
 
 // Which recording the shortest beginning on which the rule fails is of, and how many actions it has.
-#[derive(Clone, Copy)]
+#[derive(Clone, Copy, Debug, PartialEq, Eq)]
 pub enum Failing {
     First(usize),
     Second(usize),
 }
 
 // Why two recordings are turned down: a run of too many actions, an action that the sheet does not have, or the sheet's own refusal.
-#[derive(Clone, Copy)]
+#[derive(Clone, Copy, Debug, PartialEq, Eq)]
 pub enum RecordingError {
     RunTooLong,
     NoSuchAction,

@@ -18,7 +18,7 @@ pub const MOST_QUERIES: usize = 64;
 pub const LEAST_OUTPUT: usize = 1036;
 
 // Why a report is turned down: too many queries, or what clearing refuses, or an output that is too short.
-#[derive(Clone, Copy)]
+#[derive(Clone, Copy, Debug, PartialEq, Eq)]
 pub enum ReportError {
     TooManyQueries,
     Refused(Refusal),

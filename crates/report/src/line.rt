@@ -9,7 +9,7 @@ use judge::{Judged, QueryError};
 use sheet::State;
 use text::Writer;
 
-// A state, a word and a number, one space between, and a line feed.
+// A state, a word and a number, one space between, and a line feed. The place stands beside the buffer, since the tally holds it between the lines.
 fn put_words(state: State, word: &[u8], visits: usize, at: usize, out: &mut [u8]) -> usize
     requires { FitsAt (line_with state.0 word.now visits) at out.old }
     ensures { PutsAt (line_with state.0 word.now visits) at out.old result out.new }
@@ -59,7 +59,7 @@ fn line_added(sheet: &[u8], state: State, table: &mut [u8], out: &mut [u8], tall
     }
 }
 
-// The same with the tally lent: what it holds, the place of the next line beside the visits, is one value that a call brings up to date.
+// The same with the tally lent, the form that the project gives a running tally.
 pub(crate) fn add_line(
     sheet: &[u8],
     state: State,

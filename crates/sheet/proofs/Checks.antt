@@ -2,3 +2,4 @@ pub mod Lowest
 pub mod Seeking
 pub mod Checks
 pub mod Bools
+pub mod AnswerNumbers

@@ -13,6 +13,7 @@ pub mod Reading
 pub mod Writing
 -- the calls, and what is proved of them
 pub mod RunningCalls
+pub mod AnswerNumbers
 pub mod AnsweredCalls
 pub mod Subtrees
 pub mod Children

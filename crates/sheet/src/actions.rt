@@ -15,7 +15,7 @@ fn sized(a: &[u8]) -> bool
     !a.is_empty() && count <= 32 && a.len() == 1 + 3 * count
 }
 
-// Entry e of kind k: each kind has its own use of x and y.
+// Entry e of kind k: each kind has its own use of x and y. By its number, since an entry that is checked may have no kind.
 fn entry_right(actions: usize, e: usize, k: usize, x: usize, y: usize) -> bool
     ensures { result ≡ entry_right actions e k x y }
 {

@@ -21,7 +21,7 @@ pub(crate) struct Entry {
     pub(crate) length: u16,
 }
 
-// What the reader's functions do, on the sheet and the place.
+// What the reader's functions do, on the sheet and the place: they stay apart from it, as the reader's form is.
 fn heading_at(s: &[u8], at: usize) -> bool
     requires { at < 1000 }
     ensures { result ≡ heading_at s.now at }

@@ -40,7 +40,7 @@ pub struct Transition {
     pub to: State,
 }
 
-// The three bytes of an action entry or of a node.
+// The three bytes of an action entry or of a node; kinds has the names of their kinds.
 #[derive(Clone, Copy, Debug, PartialEq, Eq)]
 pub struct Fields {
     pub kind: u8,

@@ -75,7 +75,7 @@ fn modal_right(r: &[u8], entries: usize, n: Node) -> bool
     x_at(r, n) < entries && y_is_child(r, n, usize::from(n.0) + 1)
 }
 
-// The subtree of node n: each kind takes its own course.
+// The subtree of node n: each kind takes its own course. By the number of the kind, as the reader's form is.
 fn subtree_from(r: &[u8], entries: usize, n: Node) -> Result<usize, Node>
     requires { NodeOf r.now n.0 }
     ensures { Ended entries r.now n.0 result }
@@ -171,7 +171,8 @@ fn below_binder(r: &[u8], k: usize, n: Node) -> bool
     false
 }
 
-// Whether the variable or binder node n breaks the rules of binding; binders is the number of binders before it.
+// Whether the variable or binder node n breaks the rules of binding; binders is the number of binders before it. By the number of the kind, since a node
+// that is checked may have none.
 fn binding_faulty(r: &[u8], n: Node, binders: usize) -> bool
     requires { binders ≡ binders_before r.now n.0 }
     ensures { result ≡ binding_faulty r.now n.0 }

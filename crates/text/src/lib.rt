@@ -1,7 +1,6 @@
 // Texts put together in a buffer: a text, a number in decimal, `true` or `false`, the line of a refusal; and whether two texts are the same. A `Writer`
 // puts each text at its place of the buffer and goes on after it. Where the text does not fit it puts nothing, and its place is past the end, where
-// nothing fits any more: so a line of several texts is put by one call after another, and only the last place is tested. The functions `put`,
-// `put_decimal`, `put_bool` and `put_refusal` put one text and answer the place after it.
+// nothing fits any more: so a line of several texts is put by one call after another, and only the last place is tested.
 #![tactic(auto)]
 
 ghost use Rattle.std.specs.Prelude.{◌≡◌};
@@ -103,33 +102,7 @@ impl<'a> Writer<'a> {
     }
 }
 
-pub fn put(text: &[u8], at: usize, out: &mut [u8]) -> usize
-    ensures value { result ≡ place_after text.now at out.old }
-    ensures out_after { out.new ≡ buffer_after text.now at out.old }
-{
-    let mut writer = Writer::at(at, out);
-    writer.put(text);
-    writer.place
-}
-
-pub fn put_decimal(n: u64, at: usize, out: &mut [u8]) -> usize
-    ensures value { result ≡ place_after (decimal_of n) at out.old }
-    ensures out_after { out.new ≡ buffer_after (decimal_of n) at out.old }
-{
-    let mut writer = Writer::at(at, out);
-    writer.put_decimal(n);
-    writer.place
-}
-
-pub fn put_bool(b: bool, at: usize, out: &mut [u8]) -> usize
-    ensures value { result ≡ place_after (bool_text b) at out.old }
-    ensures out_after { out.new ≡ buffer_after (bool_text b) at out.old }
-{
-    let mut writer = Writer::at(at, out);
-    writer.put_bool(b);
-    writer.place
-}
-
+// The line of a refusal put at a place, and the place after it: one call for a program that answers with that line alone.
 pub fn put_refusal(number: u8, place: u16, at: usize, out: &mut [u8]) -> usize
     ensures value { result ≡ place_after (refusal_line number place) at out.old }
     ensures out_after { out.new ≡ buffer_after (refusal_line number place) at out.old }

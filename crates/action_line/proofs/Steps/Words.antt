@@ -1,7 +1,7 @@
 -- The tokens at the front of a line, and what a word is.
 use Prim.Native.Nat.{ℕ, ◌+◌, ◌<◌, ◌≤◌}
 use mathlib.Core.Path.{◌≡◌, refl, sym, ap, ap₂, ◌∙◌}
-use mathlib.Core.Bool.{Bool, true, false, not, and-false, false≢true, ◌&&◌}
+use mathlib.Core.Bool.{Bool, true, false, not, and-false, false≢true}
 use mathlib.Core.List.{List, [], ◌∷◌, ◌++◌}
 use mathlib.Core.Logic.{◌≢◌}
 use native.Mathlib.Omega.{arith}
@@ -17,6 +17,7 @@ use Rattle.std.specs.List.{prefix_len}
 use Rattle.sheet.specs.Bytes.{pick}
 use Rattle.text.specs.Words.{bool_text}
 use Rattle.text.specs.Comparing.{same_text}
+use Rattle.text.proofs.Comparing.{pointwise_same}
 use Rattle.text.specs.Numerals.{is_digit, is_decimal, all_digits}
 use Rattle.text.proofs.Numerals.{digit_bounds}
 use Rattle.action_line.specs.Tokens.{Token, true_word, false_word, not_word, and_word, or_word, open_parenthesis, close_parenthesis}
@@ -127,16 +128,8 @@ module _ (line rest : List ℕ) (n : ℕ) (e : n ≡ prefix_len is_space line) (
 
 -- ---- what a word is
 
--- `==` is the comparison of the definitions
-same_as : (w v : List ℕ) → pointwise eqb w v ≡ same_text w v
-unfolding same_text
-same_as [] [] = refl
-same_as [] (c ∷ v) = refl
-same_as (b ∷ w) [] = refl
-same_as (b ∷ w) (c ∷ v) = ap (λ (s : Bool). eqb b c && s) (same_as w v)
-
 pub told : (w v s : List ℕ) {b : Bool} → b ≡ pointwise eqb w v → v ≡ s → same_text w s ≡ b
-told w v s h e = sym (h ∙ same_as w v ∙ ap (same_text w) e)
+told w v s h e = sym (h ∙ pointwise_same w v ∙ ap (same_text w) e)
 
 pub not_decimal : (w : List ℕ) → is_digit (get_or w 0 0) ≡ true → is_decimal w ≡ false → token_of w ≡ invalid
 unfolding token_of same_text

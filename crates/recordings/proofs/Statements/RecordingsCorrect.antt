@@ -1,20 +1,16 @@
 -- Every call of `shortest_failing`, by the cases of its sheet and recordings.
 use Prim.Native.Nat.{ℕ}
 use mathlib.Core.Path.{◌≡◌, refl, sym, ap, subst, ◌∙◌}
-use mathlib.Core.Bool.{false}
 use mathlib.Core.List.{List, []}
 use mathlib.Core.Logic.{◌≢◌, inl, inr}
 use native.Mathlib.Omega.{arith}
 use lib.ListN.{length, take}
-use lib.Dec.{eqb}
-use borrow.Author.Tests.{eqb-false}
 use Rattle.sheet.proofs.Acceptance.Numbers.{refused_number}
 use Rattle.recordings.specs.Shortest.{shortest_of, part_for, reported_shortest}
 use Rattle.recordings.specs.RecordingsCorrect.{NotRefused, ShortestFailing, FirstHolds, AllHold, ShortestAnswered, RecordingsCorrect}
 use Rattle.recordings.specs.Shortest.{Answer}
 use Rattle.recordings.specs.declared.Failing.TheVariants.{First, Second}
-use Rattle.recordings.specs.declared.RecordingError.TheVariants.{RunTooLong, NoSuchAction, Refused}
-use Rattle.std.specs.Prelude.{Some, None, Ok, Err}
+use Rattle.std.specs.Prelude.{Some, None, Ok}
 use Rattle.recordings.proofs.Plans.Queries.{holds_exactly}
 use Rattle.recordings.proofs.Statements.Beginnings.{shortest_same, one_named}
 use Rattle.recordings.proofs.Statements.Outcomes.{Found, Outcome, outcome, number}
@@ -22,20 +18,8 @@ use Rattle.recordings.proofs.Statements.Outcomes.{in_order, forty_two, forty_thr
 use Rattle.recordings.proofs.Statements.RunAsSheet.{run_as_sheet}
 use Rattle.recordings.proofs.Statements.OwnPlan.{own_plan}
 
--- tells apart the answers that name a recording, or none, from each other and from the refusals
-abbrev kind : Answer → ℕ
-kind (Ok (Some (First n))) = 1
-kind (Ok (Some (Second n))) = 2
-kind (Ok None) = 0
-kind (Err RunTooLong) = 3
-kind (Err NoSuchAction) = 3
-kind (Err (Refused x)) = 3
-
 abbrev size_of : Answer → ℕ
 size_of answer = (reported_shortest answer).size
-
-differs : {a b : Answer} → a ≡ b → eqb (kind a) (kind b) ≡ false → ⊥
-differs {a} {b} e d = eqb-false (kind a) (kind b) d (ap kind e)
 
 module _ (s first second : List ℕ) where
   -- the call answered so, and handed back the part that goes with it
@@ -75,9 +59,9 @@ module _ (s first second : List ℕ) where
             λ h. (j, (sym (ap size_of h.0) ∙ sym size ∙ ap length h.1, subst (ShortestFailing s first second) h.1 f)),
             λ g. let same : take n first ≡ b = shortest_same f g.1.1 in (ap (λ (k : ℕ). Ok (Some (First k))) (sym size ∙ ap length same ∙ sym g.1.0), same),
           );
-          second_named = λ m b. (λ h. absurd (differs h.0 refl), λ g. absurd (one_named f g.1.1.0 g.1.1.1));
-          none_fails = (λ h. absurd (differs h refl), λ g. absurd (f.fails (g.1 (take n first) (inl f.beginning))));
-          none_part = λ h. absurd (differs h refl);
+          second_named = λ m b. (λ h. absurd (cc h.0), λ g. absurd (one_named f g.1.1.0 g.1.1.1));
+          none_fails = (λ h. absurd (cc h), λ g. absurd (f.fails (g.1 (take n first) (inl f.beginning))));
+          none_part = λ h. absurd (cc h);
           refused = λ h. absurd (h refl);
         }
 
@@ -92,7 +76,7 @@ module _ (s first second : List ℕ) where
           judged = judged_exactly s first second c;
           place_none = place_none s first second c;
           size_is = sym size;
-          first_named = λ m b. (λ h. absurd (differs h.0 refl), λ g. absurd (one_named g.1.1 f holds));
+          first_named = λ m b. (λ h. absurd (cc h.0), λ g. absurd (one_named g.1.1 f holds));
           second_named = λ m b. (
             λ h. (
               j,
@@ -100,8 +84,8 @@ module _ (s first second : List ℕ) where
             ),
             λ g. let same : take n second ≡ b = shortest_same f g.1.1.0 in (ap (λ (k : ℕ). Ok (Some (Second k))) (sym size ∙ ap length same ∙ sym g.1.0), same),
           );
-          none_fails = (λ h. absurd (differs h refl), λ g. absurd (f.fails (g.1 (take n second) (inr f.beginning))));
-          none_part = λ h. absurd (differs h refl);
+          none_fails = (λ h. absurd (cc h), λ g. absurd (f.fails (g.1 (take n second) (inr f.beginning))));
+          none_part = λ h. absurd (cc h);
           refused = λ h. absurd (h refl);
         }
 
@@ -115,8 +99,8 @@ module _ (s first second : List ℕ) where
           judged = judged_exactly s first second c;
           place_none = place_none s first second c;
           size_is = refl;
-          first_named = λ m b. (λ h. absurd (differs h.0 refl), λ g. absurd (g.1.1.fails (all b (inl g.1.1.beginning))));
-          second_named = λ m b. (λ h. absurd (differs h.0 refl), λ g. absurd (g.1.1.0.fails (all b (inr g.1.1.0.beginning))));
+          first_named = λ m b. (λ h. absurd (cc h.0), λ g. absurd (g.1.1.fails (all b (inl g.1.1.beginning))));
+          second_named = λ m b. (λ h. absurd (cc h.0), λ g. absurd (g.1.1.0.fails (all b (inr g.1.1.0.beginning))));
           none_fails = (λ h. (j, all), λ g. refl);
           none_part = λ h. refl;
           refused = λ h. absurd (h refl);

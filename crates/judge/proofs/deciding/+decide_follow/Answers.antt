@@ -15,7 +15,7 @@ use Rattle.judge.specs.Internal.Deciding.{DecideRequires, FollowRequires}
 use Rattle.judge.specs.Internal.Packed.{verdict_in}
 use Rattle.judge.proofs.Steps.DecideSteps.{rank_at, kind_at, x_at, y_at}
 use Rattle.judge.proofs.Steps.Turns.{walk_rank, meets_at, modal_node_at, state_at, transition_at_lem, met}
-use Rattle.judge.proofs.deciding.+decide_follow.Goals.{follow-then-has_bit+else-decides, follow-else-has_bit, decide-After-binder_of-binder, decide-After-cell_position-at, decide-After-decide-first, decide-After-decide-second, decide-After-decides, decide-After-follow-w, decide-After-follow-w-in-Box, decide-After-kind_of-k, decide-After-opening-inner, decide-After-packed_constant-w, decide-In-Or, decide-In-Least, decide-Start, decide-Then-is_outer, follow-After-decide-w, follow-After-decides, follow-After-has_bit, follow-At-loop-i, follow-In-loop-i, follow-Start}
+use Rattle.judge.proofs.deciding.+decide_follow.Goals.{follow-then-has_bit+else-decides, follow-else-has_bit, decide-After-binder_of-binder, decide-After-cell_position-at, decide-After-decide-first, decide-After-decide-second, decide-After-decides, decide-After-follow-w, decide-After-follow-w-in-Box, decide-After-kind_of-k, decide-After-opening-inner, decide-After-constant-w, decide-In-Or, decide-In-Least, decide-Start, decide-Then-is_outer, follow-After-decide-w, follow-After-decides, follow-After-has_bit, follow-At-loop-i, follow-In-loop-i, follow-Start}
 use Rattle.judge.specs.Internal.Index.{TransitionAt}
 use Rattle.judge.proofs.Steps.FollowWalk.{WalkedTo, walk_start, walk_finish, sum_small, call_child, turn_decided, turn_on, turn_past}
 use Rattle.judge.proofs.Steps.DecideCalls as calls
@@ -136,17 +136,17 @@ module _ {t : ℕ} (c : decide-Then-is_outer t) where
   is_outer_one : outer outer_one.x_of-x-in-Variable.result (begun (variable outer_one)).args.mark ≡ true
   is_outer_one = sym c.is_outer.ensures ∙ c.if-is_outer.true
 
-module _ {t : ℕ} (c : decide-After-packed_constant-w t) where
+module _ {t : ℕ} (c : decide-After-constant-w t) where
   abbrev inner : decide-After-binder_of-binder t
-  inner = (goal.at.decide-After-packed_constant-w t c).After-binder_of-binder
+  inner = (goal.at.decide-After-constant-w t c).After-binder_of-binder
 
   is_inner : outer inner.x_of-x-in-Variable.result (begun (variable inner)).args.mark ≡ false
   is_inner = sym c.is_outer.ensures ∙ c.if-is_outer.false
 
-  constant_is : c.packed_constant-w.result
+  constant_is : c.constant-w.result.0
       ≡ pick (eqb (kind_at (sheet (begun (variable inner))) (its_binder (begun (variable inner)))) 8) 1 0
   constant_is =
-      c.packed_constant-w.ensures.0 ∙
+      c.constant-w.ensures.0 ∙
       ap (λ (k : ℕ). pick (eqb k 8) 1 0) (c.kind_of.ensures ∙ ap (kind_at (sheet (begun (variable inner)))) (binder_is inner))
 
 -- ---- or and and: its first cell is decided, and then its second
@@ -174,10 +174,10 @@ module _ {t : ℕ} (c : decide-After-decides t) where
   first_x : first.x_of-x.result ≡ its_x (begun either)
   first_x = first.x_of-x.ensures
 
-  first_decides : c.decides.result ≡ beq (verdict_in first.decide-first.result) (eqb (its_kind (begun either)) 2)
+  first_decides : c.decides.result ≡ beq (verdict_in first.decide-first.result.0) (eqb (its_kind (begun either)) 2)
   first_decides =
       c.decides.ensures ∙
-      ap (beq (verdict_in first.decide-first.result))
+      ap (beq (verdict_in first.decide-first.result.0))
       (elim c.in-Or.is [
         | inl e ↦
             let h = rw e at c.eq.ensures in
@@ -329,13 +329,13 @@ decide-kind_of-requires t c =
 pub decide-fill_cell-requires-in-Variable : goal.decide-fill_cell-requires-in-Variable
 decide-fill_cell-requires-in-Variable t c =
     let w = c in
-    (still (variable (inner (goal.at.decide-fill_cell-requires-in-Variable t c).After-packed_constant-w)) refl, omega (arith, w.packed_constant-w.ensures.1))
+    (still (variable (inner (goal.at.decide-fill_cell-requires-in-Variable t c).After-constant-w)) refl, omega (arith, w.constant-w.ensures.1))
 
 pub decide-returns-else-is_outer : goal.decide-returns-else-is_outer
 decide-returns-else-is_outer t c =
     let w = c in
-    let v = inner (goal.at.decide-returns-else-is_outer t c).After-packed_constant-w in
-    answers.answer_constant (here (variable v)) (empty (variable v)) (x_is v) (is_variable v) (is_inner (goal.at.decide-returns-else-is_outer t c).After-packed_constant-w) (constant_is (goal.at.decide-returns-else-is_outer t c).After-packed_constant-w)
+    let v = inner (goal.at.decide-returns-else-is_outer t c).After-constant-w in
+    answers.answer_constant (here (variable v)) (empty (variable v)) (x_is v) (is_variable v) (is_inner (goal.at.decide-returns-else-is_outer t c).After-constant-w) (constant_is (goal.at.decide-returns-else-is_outer t c).After-constant-w)
     (c.fill_cell-in-Variable.ensures.one_visit_more, c.fill_cell-in-Variable.ensures.table_after)
 
 -- ---- or and and
@@ -371,16 +371,16 @@ decide-decide-second-requires t c =
     omega (arith, (first (goal.at.decide-decide-second-requires t c).After-decides).decide-first.auto.table, (asked s).room) in
     called s (calls.call_second (asked s) room c.y_of-y.ensures (pair_low (pair (goal.at.decide-decide-second-requires t c).After-decides)) (pair_high (pair (goal.at.decide-decide-second-requires t c).After-decides)))
 
-pub decide-add_visits-w-requires : goal.decide-add_visits-w-requires
-decide-add_visits-w-requires t c =
+pub decide-then-w-requires : goal.decide-then-w-requires
+decide-then-w-requires t c =
     let d = c in
-    (omega (arith, (first (not_yet (goal.at.decide-add_visits-w-requires t c).After-decide-second)).decide-first.ensures.small), omega (arith, d.decide-second.ensures.small))
+    (omega (arith, (first (not_yet (goal.at.decide-then-w-requires t c).After-decide-second)).decide-first.ensures.small), omega (arith, d.decide-second.ensures.small))
 
 pub decide-fill_cell-requires-in-Or : goal.decide-fill_cell-requires-in-Or
 decide-fill_cell-requires-in-Or t c =
     let d = c in (
       still (either (not_yet (goal.at.decide-fill_cell-requires-in-Or t c).After-decide-second)) (both_kept (goal.at.decide-fill_cell-requires-in-Or t c).After-decide-second),
-      omega (arith, c.add_visits-w.ensures.small, (first (not_yet (goal.at.decide-fill_cell-requires-in-Or t c).After-decide-second)).decide-first.ensures.small, d.decide-second.ensures.small),
+      omega (arith, c.then-w.ensures.small, (first (not_yet (goal.at.decide-fill_cell-requires-in-Or t c).After-decide-second)).decide-first.ensures.small, d.decide-second.ensures.small),
     )
 
 pub decide-returns-else-decides : goal.decide-returns-else-decides
@@ -390,7 +390,7 @@ decide-returns-else-decides t c =
     answers.answer_second (here (either p)) (empty (either p)) (first_x p) (pair_low (pair p)) (pair_high (pair p))
     (first p).decide-first.ensures (sym (first_decides p) ∙ d.if-decides.false)
     d.y_of-y.ensures d.decide-second.ensures
-    c.add_visits-w.ensures (c.fill_cell-in-Or.ensures.one_visit_more, c.fill_cell-in-Or.ensures.table_after)
+    c.then-w.ensures (c.fill_cell-in-Or.ensures.one_visit_more, c.fill_cell-in-Or.ensures.table_after)
 
 -- ---- a binder
 pub decide-x_of-x-requires-in-Least : goal.decide-x_of-x-requires-in-Least
@@ -457,7 +457,7 @@ module _ {t : ℕ} (c : follow-At-loop-i t) where
   abbrev end : ℕ
   end = c.transitions_end-i-end.result
 
-  walked : WalkedTo (walk_sheet walk_begin) (walk_table walk_begin) (walk_node walk_begin) (state walk_begin) walk_first end c.loop-i.i c.loop-i.sum c.loop-i.table
+  walked : WalkedTo (walk_sheet walk_begin) (walk_table walk_begin) (walk_node walk_begin) (state walk_begin) walk_first end c.loop-i.i c.loop-i.sum.0 c.loop-i.table
   walked = c.loop-i.invariant
 
 module _ {t : ℕ} (c : follow-In-loop-i t) where
@@ -490,7 +490,7 @@ module _ {t : ℕ} (c : follow-After-decide-w t) where
   child_is_lem : (loop (turn tested)).y_of.result ≡ y_at (walk_sheet (entry tested)) (walk_node (entry tested))
   child_is_lem = (loop (turn tested)).y_of.ensures
 
-  to_add : ((loop (turn tested)).loop-i.sum < 1000000000) × (c.decide-w.result < 1000000000)
+  to_add : ((loop (turn tested)).loop-i.sum.0 < 1000000000) × (c.decide-w.result.0 < 1000000000)
   to_add = (sum_small (walked (loop (turn tested))), omega (arith, c.decide-w.ensures.small))
 
 module _ {t : ℕ} (c : follow-After-decides t) where
@@ -498,8 +498,8 @@ module _ {t : ℕ} (c : follow-After-decides t) where
   decided = (goal.at.follow-After-decides t c).After-decide-w
 
   deciding : c.decides.result
-      ≡ beq (verdict_in decided.decide-w.result) (eqb (kind_at (walk_sheet (entry (tested decided))) (walk_node (entry (tested decided)))) 4)
-  deciding = c.decides.ensures ∙ ap (beq (verdict_in decided.decide-w.result)) (entry (tested decided)).requires.1
+      ≡ beq (verdict_in decided.decide-w.result.0) (eqb (kind_at (walk_sheet (entry (tested decided))) (walk_node (entry (tested decided)))) 4)
+  deciding = c.decides.ensures ∙ ap (beq (verdict_in decided.decide-w.result.0)) (entry (tested decided)).requires.1
 
 -- ---- before the loop
 pub follow-x_of-entry-requires : goal.follow-x_of-entry-requires
@@ -529,8 +529,8 @@ follow-decide-w-requires t c =
     c.target_of.ensures in
     (omega (arith, w.0, (entry (goal.at.follow-decide-w-requires t c).After-has_bit).decreases), w.1)
 
-pub follow-add_visits-sum-requires : goal.follow-add_visits-sum-requires
-follow-add_visits-sum-requires t c = to_add (goal.at.follow-add_visits-sum-requires t c).After-decide-w
+pub follow-then-sum-requires : goal.follow-then-sum-requires
+follow-then-sum-requires t c = to_add (goal.at.follow-then-sum-requires t c).After-decide-w
 
 pub follow-returns-then-decides : goal.follow-returns-then-decides
 follow-returns-then-decides t c =
@@ -538,7 +538,7 @@ follow-returns-then-decides t c =
     let d = decided v in
     let m = tested d in
     turn_decided (walk_asked (entry m)) (walked (loop (turn m))) (turn m).loop-i-test.true (child_is_lem d) d.target_of.ensures
-    (is_met d) d.decide-w.ensures (sym (deciding v) ∙ c.if-decides.true) c.add_visits-sum.ensures
+    (is_met d) d.decide-w.ensures (sym (deciding v) ∙ c.if-decides.true) c.then-sum.ensures
 
 pub follow-loop-i-preserved : goal.follow-loop-i-preserved
 follow-loop-i-preserved t c =
@@ -550,17 +550,17 @@ follow-loop-i-preserved t c =
       | follow-then-has_bit+else-decides b ↦
           rw (b.sum-is, b.table-is)
           (turn_on s w more c.y_of.ensures b.target_of.ensures (sym (meeting m) ∙ b.if-has_bit.true) b.decide-w.ensures
-          (sym (b.decides.ensures ∙ ap (beq (verdict_in b.decide-w.result)) (entry m).requires.1) ∙ b.if-decides.false) b.add_visits-sum.ensures b.decide-w.auto.table)
+          (sym (b.decides.ensures ∙ ap (beq (verdict_in b.decide-w.result.0)) (entry m).requires.1) ∙ b.if-decides.false) b.then-sum.ensures b.decide-w.auto.table)
       | follow-else-has_bit b ↦ rw (b.sum-is, b.table-is) (turn_past s w more (sym (meeting m) ∙ b.if-has_bit.false))
     ]
 
 -- ---- after the loop
-pub follow-add_visits-requires : goal.follow-add_visits-requires
-follow-add_visits-requires t c = (sum_small (walked (goal.at.follow-add_visits-requires t c).At-loop-i), omega (arith, c.packed_constant.ensures.1))
+pub follow-then-requires : goal.follow-then-requires
+follow-then-requires t c = (sum_small (walked (goal.at.follow-then-requires t c).At-loop-i), omega (arith, c.constant.ensures.1))
 
 pub follow-returns : goal.follow-returns
 follow-returns t c =
     let l = c in
     let s = walk_begin (goal.at.follow-returns t c).At-loop-i in
-    walk_finish (walk_asked s) (walked (goal.at.follow-returns t c).At-loop-i) c.loop-i-test.false s.requires.1 c.packed_constant.ensures
-    c.add_visits.ensures
+    walk_finish (walk_asked s) (walked (goal.at.follow-returns t c).At-loop-i) c.loop-i-test.false s.requires.1 c.constant.ensures
+    c.then.ensures

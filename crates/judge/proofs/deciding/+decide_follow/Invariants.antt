@@ -14,4 +14,4 @@ abbrev pub decreases-follow : goal.decreases-follow
 decreases-follow l = walk_rank l.sheet.now l.state.0
 
 abbrev pub invariant-follow-loop-i : goal.invariant-follow-loop-i
-invariant-follow-loop-i l = WalkedTo l.sheet l.initial.table l.fn.node.0 l.fn.state.0 l.initial.i l.i-end l.i l.sum l.table
+invariant-follow-loop-i l = WalkedTo l.sheet l.initial.table l.fn.node.0 l.fn.state.0 l.initial.i l.i-end l.i l.sum.0 l.table

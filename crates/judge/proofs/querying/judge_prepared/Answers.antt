@@ -30,8 +30,8 @@ decide-w-requires c = root_decidable c.requires (taken (goal.at.decide-w-require
 
 pub overflow_add-count : goal.overflow_add-count
 overflow_add-count c =
-    omega (arith, count_fits c.requires (taken (goal.at.overflow_add-count c).In_ok-stored) _ _ _ c.decide-w.ensures c.visits_of-visits.ensures)
+    omega (arith, count_fits c.requires (taken (goal.at.overflow_add-count c).In_ok-stored) _ _ _ c.decide-w.ensures c.visits-visits.ensures)
 
 pub returns : goal.returns
 returns c =
-    answers_judged c.requires (taken (goal.at.returns c).In_ok-stored) _ _ _ _ _ c.decide-w.ensures c.is_true.ensures c.visits_of-visits.ensures c.put_number.ensures
+    answers_judged c.requires (taken (goal.at.returns c).In_ok-stored) _ _ _ _ _ c.decide-w.ensures c.is_true.ensures c.visits-visits.ensures c.put_number.ensures

@@ -8,7 +8,7 @@ pub returns : goal.returns
 returns c = record {
   one_visit_more = cell_filled _;
   table_after = ap (set c.args.table.now c.args.at) (elim c.if-is_true.branch [
-    | then-is_true w ↦ w.table-is ∙ true_byte c.args.w (sym c.is_true.ensures ∙ w.if-is_true.true)
-    | else-is_true w ↦ w.table-is ∙ false_byte c.args.w (sym c.is_true.ensures ∙ w.if-is_true.false)
+    | then-is_true w ↦ w.table-is ∙ true_byte c.args.w.0 (sym c.is_true.ensures ∙ w.if-is_true.true)
+    | else-is_true w ↦ w.table-is ∙ false_byte c.args.w.0 (sym c.is_true.ensures ∙ w.if-is_true.false)
   ]);
 }

@@ -13,7 +13,7 @@ pub overflow_add-visits : goal.overflow_add-visits
 overflow_add-visits c =
     omega (
       arith,
-      c.visits_of-visits.ensures,
+      c.visits-visits.ensures,
       size_small _ c.requires.prepared.accepted,
       sum_few c.requires c.loop-passed.invariant c.loop-passed-test.true c.decide-w.ensures,
     )
@@ -21,12 +21,12 @@ overflow_add-visits c =
 pub returns-then-not-is_true : goal.returns-then-not-is_true
 returns-then-not-is_true c =
     queried_stop c.requires c.loop-passed.invariant c.loop-passed-test.true c.decide-w.ensures
-    (sym c.is_true.ensures ∙ c.if-not-is_true.true) (ap (λ (k : _). c.loop-passed.visits + k) c.visits_of-visits.ensures)
+    (sym c.is_true.ensures ∙ c.if-not-is_true.true) (ap (λ (k : _). c.loop-passed.visits + k) c.visits-visits.ensures)
 
 pub loop-passed-preserved : goal.loop-passed-preserved
 loop-passed-preserved c =
     queried_next c.requires c.loop-passed.invariant c.loop-passed-test.true c.decide-w.ensures
-    (sym c.is_true.ensures ∙ c.if-not-is_true.false) (ap (λ (k : _). c.loop-passed.visits + k) c.visits_of-visits.ensures)
+    (sym c.is_true.ensures ∙ c.if-not-is_true.false) (ap (λ (k : _). c.loop-passed.visits + k) c.visits-visits.ensures)
 
 pub returns : goal.returns
 returns c =

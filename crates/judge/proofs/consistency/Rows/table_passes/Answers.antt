@@ -1,4 +1,4 @@
--- `judge::consistency::table_passes` meets its contract.
+-- `judge::consistency::Rows::table_passes` meets its contract.
 use Rattle.std.proofs.Common.{◌<◌, not, sym, refl, ap, ◌∙◌, arith}
 use Rattle.sheet.specs.Contents.{plan_body}
 use Rattle.sheet.specs.Plan.{state_count}
@@ -6,15 +6,15 @@ use Rattle.sheet.proofs.Checks.Seeking.{seek_start, seek_next}
 use Rattle.sheet.proofs.Acceptance.Parts.{few_states}
 use Rattle.judge.specs.Internal.Auditing.{state_passes}
 use Rattle.judge.proofs.Steps.AuditCells.{every_fails, every_passes, others_pass}
-use Rattle.judge.proofs.consistency.table_passes.Goals as goal
-use Rattle.judge.proofs.consistency.table_passes.Goals.{In-loop-s, else-starts-s-ne0-via-then-starts-s-ne0+else-not-state_passes, else-starts-s-ne0-via-else-starts-s-ne0}
+use Rattle.judge.proofs.consistency.Rows.table_passes.Goals as goal
+use Rattle.judge.proofs.consistency.Rows.table_passes.Goals.{In-loop-s, else-starts-s-ne0-via-then-starts-s-ne0+else-not-state_passes, else-starts-s-ne0-via-else-starts-s-ne0}
 
 pub loop-s-init : goal.loop-s-init
 loop-s-init c = seek_start _ _ _ refl
 
 -- the state of a turn
 module _ (c : In-loop-s) where
-  below : c.loop-s.s < state_count (plan_body c.args.sheet.now)
+  below : c.loop-s.s < state_count (plan_body c.args.self.now.sheet.now)
   below = omega (arith, c.loop-s-test.true, c.state_count-s-end.ensures ∙ ap state_count c.plan_body.ensures)
 
 pub bounds-starts-s : goal.bounds-starts-s
@@ -25,7 +25,7 @@ state_passes-requires c = c.requires.started c.loop-s.s c.if-starts-s-ne0.true
 
 pub returns-then-not-state_passes : goal.returns-then-not-state_passes
 returns-then-not-state_passes c =
-    every_fails (λ j. state_passes c.args.sheet.now c.args.table.now j)
+    every_fails (λ j. state_passes c.args.self.now.sheet.now c.args.self.now.table.now j)
     c.loop-s.invariant refl (below (goal.at.returns-then-not-state_passes c).In-loop-s) (sym c.state_passes.ensures ∙ c.if-not-state_passes.true)
 
 pub loop-s-preserved : goal.loop-s-preserved
@@ -39,5 +39,5 @@ loop-s-preserved c =
 
 pub returns : goal.returns
 returns c =
-    every_passes (λ j. state_passes c.args.sheet.now c.args.table.now j) c.loop-s.invariant refl
+    every_passes (λ j. state_passes c.args.self.now.sheet.now c.args.self.now.table.now j) c.loop-s.invariant refl
     (omega (arith, c.loop-s-test.false, c.state_count-s-end.ensures ∙ ap state_count c.plan_body.ensures))

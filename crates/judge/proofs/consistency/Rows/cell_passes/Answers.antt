@@ -1,7 +1,7 @@
--- `judge::consistency::cell_passes` meets its contract.
+-- `judge::consistency::Rows::cell_passes` meets its contract.
 use Rattle.std.proofs.Common.{sym, ◌∙◌, eq-eqb}
 use Rattle.judge.proofs.Steps.AuditCells.{mark_few, byte_filled, mark_is, allowed_decidable, passes_row, passes_shown, passes_not}
-use Rattle.judge.proofs.consistency.cell_passes.Goals as goal
+use Rattle.judge.proofs.consistency.Rows.cell_passes.Goals as goal
 
 pub mark_allowed-requires : goal.mark_allowed-requires
 mark_allowed-requires c = mark_few c.requires.0

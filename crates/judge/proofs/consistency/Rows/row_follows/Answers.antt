@@ -1,4 +1,4 @@
--- `judge::consistency::row_follows` meets its contract: the row by the kind of the node.
+-- `judge::consistency::Rows::row_follows` meets its contract: the row by the kind of the node.
 use Rattle.std.proofs.Common.{◌≡◌, ℕ, ◌<◌, ◌≤◌, sym, ap, ◌∙◌, arith, eqb, eq-eqb, ne_eqb}
 use mathlib.Core.Bool.{Bool, true, false, beq}
 use mathlib.Core.Logic.{inl, inr}
@@ -10,12 +10,12 @@ use Rattle.judge.specs.Internal.Deciding.{DecideRequires}
 use Rattle.judge.proofs.Steps.DecideSteps.{kind_at}
 use Rattle.judge.proofs.Steps.DecideCalls.{placed, node_at, cell_inside, call_first, call_second, call_outer, call_body, call_follow, binder_x, binder_asked, binder_found, binder_at}
 use Rattle.judge.proofs.Steps.AuditRows.{row_false, row_true, row_unknown, row_outer, row_constant, row_body, row_modal, some_asks_one, every_asks_one, row_first, row_second}
-use Rattle.judge.proofs.consistency.row_follows.Goals as goal
-use Rattle.judge.proofs.consistency.row_follows.Goals.{After-kind_of-k, After-eq, In-Or, In-Variable, In-Least, Start}
+use Rattle.judge.proofs.consistency.Rows.row_follows.Goals as goal
+use Rattle.judge.proofs.consistency.Rows.row_follows.Goals.{After-kind_of-k, After-eq, In-Or, In-Variable, In-Least, Start}
 
 -- ---- the start, and the kind of the node
 module _ (c : Start) where
-  asked : DecideRequires c.args.sheet.now c.args.index.now c.args.table.now (cell c.args.mark c.args.node.0 c.args.state.0)
+  asked : DecideRequires c.args.self.now.sheet.now c.args.self.now.index.now c.args.self.now.table.now (cell c.args.mark c.args.node.0 c.args.state.0)
   asked = c.requires.0
 
 module _ (c : After-kind_of-k) where
@@ -23,7 +23,7 @@ module _ (c : After-kind_of-k) where
   start = (goal.at.After-kind_of-k c).Start
 
   abbrev its_kind : ℕ
-  its_kind = kind_at start.args.sheet.now start.args.node.0
+  its_kind = kind_at start.args.self.now.sheet.now start.args.node.0
 
   kind : c.kind_of-k.result ≡ its_kind
   kind = c.kind_of-k.ensures
@@ -61,7 +61,7 @@ byte_is-requires-then-is_outer c =
     let d = asked (goal.at.byte_is-requires-then-is_outer c).Start in
     let k = is_variable (goal.at.byte_is-requires-then-is_outer c).In-Variable in
     let x = c.x_of-x-in-Variable.ensures in
-    cell_inside (call_outer d {u = c.args.table.now} d.room x (binder_found d k x c.binder_of-binder.ensures) k (sym c.is_outer.ensures ∙ c.if-is_outer.true)).1
+    cell_inside (call_outer d {u = c.args.self.now.table.now} d.room x (binder_found d k x c.binder_of-binder.ensures) k (sym c.is_outer.ensures ∙ c.if-is_outer.true)).1
     (placed d.prepared _ _ _ c.cell_position-then-is_outer.ensures)
 
 pub returns-then-is_outer : goal.returns-then-is_outer
@@ -104,7 +104,7 @@ x_of-x-requires c = node_at (asked (goal.at.x_of-x-requires c).Start)
 pub byte_is-requires : goal.byte_is-requires
 byte_is-requires c =
     let d = asked (goal.at.byte_is-requires c).Start in
-    cell_inside (call_first d {u = c.args.table.now} d.room c.x_of-x.ensures (pair_low (goal.at.byte_is-requires c).In-Or) (pair_high (goal.at.byte_is-requires c).In-Or)).1 (placed d.prepared _ _ _ c.cell_position.ensures)
+    cell_inside (call_first d {u = c.args.self.now.table.now} d.room c.x_of-x.ensures (pair_low (goal.at.byte_is-requires c).In-Or) (pair_high (goal.at.byte_is-requires c).In-Or)).1 (placed d.prepared _ _ _ c.cell_position.ensures)
 
 pub returns-then-byte_is-one : goal.returns-then-byte_is-one
 returns-then-byte_is-one c =
@@ -118,7 +118,7 @@ y_of-y-requires c = node_at (asked (goal.at.y_of-y-requires c).Start)
 pub byte_is-requires-in-Or : goal.byte_is-requires-in-Or
 byte_is-requires-in-Or c =
     let d = asked (goal.at.byte_is-requires-in-Or c).Start in
-    cell_inside (call_second d {u = c.args.table.now} d.room c.y_of-y.ensures (pair_low (goal.at.byte_is-requires-in-Or c).In-Or) (pair_high (goal.at.byte_is-requires-in-Or c).In-Or)).1 (placed d.prepared _ _ _ c.cell_position-in-Or.ensures)
+    cell_inside (call_second d {u = c.args.self.now.table.now} d.room c.y_of-y.ensures (pair_low (goal.at.byte_is-requires-in-Or c).In-Or) (pair_high (goal.at.byte_is-requires-in-Or c).In-Or)).1 (placed d.prepared _ _ _ c.cell_position-in-Or.ensures)
 
 -- ---- a binder
 module _ (c : In-Least) where
@@ -145,7 +145,7 @@ pub byte_is-requires-in-Least : goal.byte_is-requires-in-Least
 byte_is-requires-in-Least c =
     let d = asked (goal.at.byte_is-requires-in-Least c).Start in
     cell_inside
-    (call_body d {u = c.args.table.now} d.room (c.opening-inner.ensures ∙ ap (λ (x : ℕ). opened x c.args.mark) c.x_of-x-in-Least.ensures) c.y_of-y-in-Least.ensures
+    (call_body d {u = c.args.self.now.table.now} d.room (c.opening-inner.ensures ∙ ap (λ (x : ℕ). opened x c.args.mark) c.x_of-x-in-Least.ensures) c.y_of-y-in-Least.ensures
     (binder_low (goal.at.byte_is-requires-in-Least c).In-Least) (binder_high (goal.at.byte_is-requires-in-Least c).In-Least)).1
     (placed d.prepared _ _ _ c.cell_position-in-Least.ensures)
 

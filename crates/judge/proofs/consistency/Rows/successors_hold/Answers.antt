@@ -1,9 +1,9 @@
--- `judge::consistency::successors_hold` meets its contract.
+-- `judge::consistency::Rows::successors_hold` meets its contract.
 use Rattle.std.proofs.Common.{◌≡◌, sym, ◌∙◌}
 use Rattle.judge.proofs.Steps.Turns.{meets_at, modal_node_at, state_at, transition_at_lem, met}
 use Rattle.judge.proofs.Steps.AuditRows.{successors_start, child_inside, child_has, successors_found, successors_on, successors_past, successors_end}
-use Rattle.judge.proofs.consistency.successors_hold.Goals as goal
-use Rattle.judge.proofs.consistency.successors_hold.Goals.{After-has_bit, then-has_bit+else-byte_is-one, else-has_bit}
+use Rattle.judge.proofs.consistency.Rows.successors_hold.Goals as goal
+use Rattle.judge.proofs.consistency.Rows.successors_hold.Goals.{After-has_bit, then-has_bit+else-byte_is-one, else-has_bit}
 
 -- ---- before the loop
 pub x_of-entry-requires : goal.x_of-entry-requires
@@ -22,7 +22,7 @@ pub label_of-requires : goal.label_of-requires
 label_of-requires c = transition_at_lem c.requires.0 c.loop-i.invariant.turn c.loop-i-test.true
 
 module _ (c : After-has_bit) where
-  meeting : c.has_bit.result ≡ meets_at c.args.sheet.now c.args.node.0 c.loop-i.i
+  meeting : c.has_bit.result ≡ meets_at c.args.self.now.sheet.now c.args.node.0 c.loop-i.i
   meeting =
       met c.requires.0 c.loop-i.invariant.turn c.loop-i-test.true c.has_bit.ensures c.mask_of.ensures
       c.label_of.ensures c.x_of-entry.ensures
