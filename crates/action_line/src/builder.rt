@@ -63,7 +63,7 @@ impl BodyBuilder {
         self.count.saturating_sub(1) as u8
     }
 
-    // The next entry.
+    // The next entry: a byte of the body each. That there is room is asked, and not kept by the type, since it ends with the last entry.
     fn put_entry(&mut self, kind: u8, x: u8, y: u8)
         requires { self.old.top + self.old.count < 32 }
         ensures state { state_of self.new ≡ with_entry kind x y (state_of self.old) }

@@ -35,7 +35,7 @@ fn has_leading_zero(word: &[u8]) -> bool
     1 < word.len() && word[0] == b'0'
 }
 
-// A word that begins with a digit is a number, or invalid.
+// A word that begins with a digit is a number, or invalid. That it has a byte is asked as it is: a type for it would be made at one place and read at two.
 fn number(word: &[u8]) -> Token
     requires { (0 < length word.now) × (is_digit (get_or word.now 0 0) ≡ true) }
     ensures { held result ≡ capped (token_of word.now) }

@@ -48,7 +48,8 @@ fn in_range(plan: &[u8], branch: Transition) -> bool
         && branch.to.0 < state_count(plan)
 }
 
-// Whether the plan takes the branch, whose place is known.
+// Whether the plan takes the branch, whose place is known. That the plan is well formed is asked of the bytes: a type for it would have to be made anew of
+// the sheet's.
 pub(crate) fn fits(plan: &[u8], branch: Transition, place: usize) -> bool
     requires well_formed_plan { WellFormedPlan plan.now }
     requires place_value { (place ≡ insertion_place plan.now (labelled branch)) × (place ≤ transition_count plan.now) }

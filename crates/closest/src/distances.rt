@@ -58,7 +58,8 @@ impl Search {
     }
 }
 
-// One pass over states and transitions together.
+// One pass over states and transitions together. That the plan is well formed is asked here and above as it is of any plan: a type for it would have to be
+// made of the sheet's bytes anew.
 fn find_firsts(plan: &[u8]) -> Firsts
     requires { WellFormedPlan plan.now }
     ensures { FirstsRight plan.now result }

@@ -39,7 +39,7 @@ pub(crate) fn put_holds(visits: usize, out: &mut [u8]) -> usize
     line.place
 }
 
-// The lines of so many transitions, three bytes each, from place at of out on.
+// The lines of so many transitions, three bytes each, from place at of out on. By index, since the way's buffer is longer than the way.
 pub(crate) fn put_way(way: &[u8], count: usize, at: usize, out: &mut [u8]) -> usize
     requires { LinesRequire way.now count at out.old }
     ensures { PutsAt (lines_of way.now count) at out.old result out.new }

@@ -23,6 +23,7 @@ enum Colour {
 // A colour for each number that a byte can give a state.
 type Colours = [Colour; BYTE_VALUES];
 
+// The bytes of transition i. Each asks that they are there: of a plan of any bytes nothing else is known.
 fn origin_at(plan: &[u8], i: usize) -> State
     requires { 6 + 3 * i < length plan.now }
     ensures { result.0 ≡ origin plan.now i }

@@ -28,7 +28,8 @@ fn byte_is(table: &[u8], at: usize, b: u8) -> bool
     table[at] == b
 }
 
-// What is shown to follow under every mark once a cell with byte b has passed: the row of a "some" or an "every" is the same under each.
+// What is shown to follow under every mark once a cell with byte b has passed: the row of a "some" or an "every" is the same under each. By the number of
+// the kind: to read it by name would only add a way out that never comes, here and where a binder's kind is compared with 8, a greatest fixed point.
 fn shown_after(kind: u8, b: u8, shown: u8) -> u8
     ensures { result ≡ shown_after kind b shown }
 {

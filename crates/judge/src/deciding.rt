@@ -68,6 +68,7 @@ impl<'a> Prepared<'a> {
                     let w = self.decide(table, 0, binder, state);
                     return fill_cell(table, at, w);
                 }
+                // 8 is a greatest fixed point: by its number, since a binder's kind is always one.
                 let w = Packed::constant(kind_of(self.sheet, self.index, binder) == 8);
                 fill_cell(table, at, w)
             }

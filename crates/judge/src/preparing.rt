@@ -108,7 +108,7 @@ pub(crate) fn prepare_rule(sheet: &[u8]) -> Index
     index
 }
 
-// For an audit: whether no loop can be reached from any of some states; where none can, the index then holds what their rows are read with.
+// For an audit, and like prepare but for the search, which a parameter would not make plainer: whether no loop can be reached from any of some states; where none can, the index then holds what their rows are read with.
 pub(crate) fn prepare_states(sheet: &[u8], index: &mut Index, starts: &Starts) -> bool
     requires { StatesAsked sheet.now index.old starts.now }
     ensures { StatesTold sheet.now starts.now index.new result }

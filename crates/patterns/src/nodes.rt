@@ -1,4 +1,4 @@
-// The fields of a rule's nodes. Where a kind has a mirror, every chooses it: "and" for "or", "every" for "some", greatest for least.
+// The fields of a rule's nodes, of at most 64: a node's number has a type of its own, which says nothing of how many there are. Where a kind has a mirror, every chooses it: "and" for "or", "every" for "some", greatest for least.
 ghost use Rattle.std.specs.Prelude.{◌≡◌, ◌<◌};
 ghost use Rattle.patterns.specs.Internal.Nodes.{Movable, moved, pair_fields, modal_fields, variable_fields, binder_fields};
 

@@ -76,7 +76,8 @@ impl<'a> Judge<'a> {
             // No transition leads out of it.
             NodeKind::Box => self.full ^ self.some(x, self.full ^ self.evaluate(Node(y), context)),
             NodeKind::Variable => context.set_of(Variable(x)),
-            // Its image is added until nothing is new, which no count of rounds tells beforehand.
+            // Its image is added until nothing is new, which no count of rounds tells beforehand. The loop of a greatest one differs from it in each step but
+            // one, so they stay two.
             NodeKind::Least => loop {
                 let image = self.evaluate(Node(y), context);
                 let states = context.set_of(Variable(x));
