@@ -2,13 +2,7 @@
 ghost use Rattle.std.specs.Prelude.{◌≡◌, ◌+◌, ◌-◌, ◌<◌, ◌≤◌, ◌^◌, IsTrue};
 
 use crate::{LONGEST_BODY, MOST_ENTRIES, Token};
-
-// The kinds of the entries of numbers and constants, as a body has them.
-const FALSE: u8 = 0;
-
-const TRUE: u8 = 1;
-
-const ACTION: u8 = 2;
+use sheet::kinds::EntryKind;
 
 // An operator, by the kind of its entry, which is also how tightly it binds.
 #[derive(Clone, Copy, PartialEq, Eq, PartialOrd, Ord)]
@@ -39,6 +33,7 @@ pub(crate) struct BodyBuilder {
 }
 
 impl BodyBuilder {
+    ghost use Rattle.sheet.specs.KindNumbers.{entry_kind_number};
     ghost use Rattle.action_line.specs.Tokens.{close_parenthesis};
     ghost use Rattle.action_line.specs.Precedence.{completed, ended, shift, step};
     ghost use Rattle.action_line.specs.Entries.{word_count};
@@ -129,11 +124,11 @@ impl BodyBuilder {
     }
 
     // An operand's entry.
-    fn put_operand(&mut self, kind: u8, x: u8)
+    fn put_operand(&mut self, kind: EntryKind, x: u8)
         requires { self.old.top + self.old.count < 32 }
-        ensures { state_of self.new ≡ with_operand kind x (state_of self.old) }
+        ensures { state_of self.new ≡ with_operand (entry_kind_number kind) x (state_of self.old) }
     {
-        self.put_entry(kind, x, 0);
+        self.put_entry(kind as u8, x, 0);
         self.complete();
     }
 
@@ -175,9 +170,9 @@ impl BodyBuilder {
         ensures { state_of self.new ≡ step entries_in_place (held token) (state_of self.old) }
     {
         match token {
-            Token::Number(n) => self.put_operand(ACTION, n),
-            Token::True => self.put_operand(TRUE, 0),
-            Token::False => self.put_operand(FALSE, 0),
+            Token::Number(n) => self.put_operand(EntryKind::Action, n),
+            Token::True => self.put_operand(EntryKind::True, 0),
+            Token::False => self.put_operand(EntryKind::False, 0),
             Token::Not => self.shift(Operator::Not),
             Token::And => self.shift(Operator::And),
             Token::Or => {

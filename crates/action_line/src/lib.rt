@@ -12,6 +12,7 @@ pub mod parsing;
 mod pass;
 
 use sheet::{Numbered, Refusal};
+
 // The most entries that an action table may have, and the bytes of the longest body.
 const MOST_ENTRIES: usize = 32;
 

@@ -3,7 +3,7 @@
 -- buffer, for every list of bytes as sheet, as states and as buffer.
 use Rattle.std.specs.Prelude.{◌≡◌, ℕ, suc, Bool, true, false, List, [], ◌∷◌, map, length, nat_le, nat_lt, Err, Ok, Result}
 use Rattle.sheet.specs.Bytes.{pick}
-use Rattle.sheet.specs.Refusals.{number_of, place_of, require, and_then}
+use Rattle.sheet.specs.Refusals.{require, and_then}
 use Rattle.sheet.specs.Contents.{plan_body, rule_body}
 use Rattle.sheet.specs.Plan.{state_count}
 use Rattle.sheet.specs.Reading.{sheet_check}

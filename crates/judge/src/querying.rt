@@ -3,7 +3,7 @@ ghost use Rattle.judge.specs.Internal.Index.{QueryRequires};
 ghost use Rattle.judge.specs.Querying.{Queries};
 
 use crate::counting::right_count;
-use crate::deciding::decide;
+use crate::deciding::Prepared;
 use crate::index::Index;
 use crate::preparing::{index_of, prepare};
 use crate::table::{cell_bytes_prepared, put_number};
@@ -24,7 +24,8 @@ fn judge_prepared(
 {
     let cells = cell_bytes_prepared(sheet, index);
     let stored = right_count(table, cells)?;
-    let w = decide(sheet, index, &mut table[..cells], 0, Node(0), state);
+    let prepared = Prepared { sheet, index };
+    let w = prepared.decide(&mut table[..cells], 0, Node(0), state);
     let visits = w.visits();
     let count = stored + visits as u32;
     put_number(table, cells, count);

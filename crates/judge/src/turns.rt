@@ -4,7 +4,7 @@ ghost use Rattle.judge.specs.InTurn.{QueriesInTurn};
 ghost use Rattle.judge.specs.Internal.Turns.{StatesMarked, EachPrepared, WalkRequires, WalkedInTurn};
 
 use crate::counting::right_count;
-use crate::deciding::decide;
+use crate::deciding::Prepared;
 use crate::index::Index;
 use crate::preparing::{prepare_rule, prepare_states};
 use crate::table::{cell_bytes_prepared, put_number};
@@ -34,9 +34,10 @@ fn walk_states(sheet: &[u8], index: &Index, states: &[u8], table: &mut [u8]) -> 
     requires { WalkRequires sheet.now index.now states.now table.old }
     ensures { WalkedInTurn sheet.now states.now table.old result.passed result.visits table.new }
 {
+    let prepared = Prepared { sheet, index };
     let mut visits = 0;
     for (passed, state) in states.iter().enumerate() {
-        let w = decide(sheet, index, table, 0, Node(0), State(*state));
+        let w = prepared.decide(table, 0, Node(0), State(*state));
         visits += w.visits();
         if !w.is_true() {
             return JudgedInTurn { passed, visits };

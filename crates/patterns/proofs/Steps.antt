@@ -1,4 +1,5 @@
 pub mod Moving
+pub mod PartKinds
 pub mod Parts
 pub mod SecondSteps
 pub mod Copying

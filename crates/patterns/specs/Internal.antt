@@ -1,3 +1,4 @@
+pub mod PartKinds
 pub mod Passing
 pub mod SecondParts
 pub mod Nodes

@@ -6,6 +6,7 @@
 
 mod draft;
 mod nodes;
+mod parts;
 mod pattern_check;
 mod putting;
 mod second_parts;

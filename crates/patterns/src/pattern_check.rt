@@ -3,6 +3,8 @@ ghost use Rattle.std.specs.Prelude.{◌≡◌};
 ghost use Rattle.patterns.specs.Patterns.{reading_of};
 ghost use Rattle.patterns.specs.Internal.Passing.{is_readable};
 
+use crate::parts::PartKind;
+
 // The leading byte is 0 or 1, and one part takes up all bytes after it.
 pub(crate) fn is_readable(pattern: &[u8], entries: u8) -> bool
     ensures { result ≡ is_readable (reading_of entries pattern.now) }
@@ -20,8 +22,11 @@ pub(crate) fn is_readable(pattern: &[u8], entries: u8) -> bool
         if missing == 0 {
             return false;
         }
-        match *op {
-            0 => {
+        let Ok(kind) = PartKind::try_from(*op) else {
+            return false;
+        };
+        match kind {
+            PartKind::Entry => {
                 let Some((entry, behind)) = behind.split_first() else {
                     return false;
                 };
@@ -31,12 +36,11 @@ pub(crate) fn is_readable(pattern: &[u8], entries: u8) -> bool
                 missing -= 1;
                 rest = behind;
             }
-            1 | 2 => {
+            PartKind::Sequence | PartKind::Choice => {
                 missing += 1;
                 rest = behind;
             }
-            3 => rest = behind,
-            _ => return false,
+            PartKind::Repetition => rest = behind,
         }
     }
     missing == 0

@@ -4,6 +4,7 @@
 // gone through, what follows it, and at that of each repetition its variable.
 use crate::draft::Draft;
 use crate::nodes::{binder, modal, pair, variable};
+use crate::parts::PartKind;
 use crate::{Oversize, Places};
 use sheet::Variable;
 
@@ -25,24 +26,29 @@ impl Draft {
         ensures { PartDone source.now self.old at after result self.new }
     {
         let every = source.pattern[0] == 1;
-        let op = source.pattern[at as usize];
-        if op == 1 {
-            self.slots[at as usize] = after;
-            return self.put_part(source, at + 1, at);
-        }
-        let node = self.next_node()?;
-        match op {
-            0 => {
+        // A readable pattern has no number but those of the kinds.
+        let Ok(kind) = PartKind::try_from(source.pattern[at as usize]) else {
+            return Ok(());
+        };
+        match kind {
+            PartKind::Entry => {
+                let node = self.next_node()?;
                 let entry = source.pattern[at as usize + 1];
                 self.put_node(node, modal(every, node, entry));
                 self.put_after(source, after)
             }
-            2 => {
+            PartKind::Sequence => {
+                self.slots[at as usize] = after;
+                self.put_part(source, at + 1, at)
+            }
+            PartKind::Choice => {
+                let node = self.next_node()?;
                 self.put_part(source, at + 1, after)?;
                 self.put_node(node, pair(every, node, self.nodes));
                 self.put_part(source, source.seconds[at as usize], after)
             }
-            _ => {
+            PartKind::Repetition => {
+                let node = self.next_node()?;
                 let bound = self.next_binder()?;
                 let inner = self.next_node()?;
                 self.put_node(node, binder(every, node, bound));
@@ -64,7 +70,7 @@ impl Draft {
             return self.put_rule(source.rule);
         }
         let slot = self.slots[after as usize];
-        if source.pattern[after as usize] == 1 {
+        if PartKind::try_from(source.pattern[after as usize]) == Ok(PartKind::Sequence) {
             return self.put_part(source, source.seconds[after as usize], slot);
         }
         let node = self.next_node()?;

@@ -35,21 +35,21 @@ node_movable {entries} {r} kept few m l {n} {b} h g = go w.whole w.within
     w : SubtreeWithin entries r m (node_count r)
     w = node_subtree kept m l
 
-    movable : node_x r m ≤ 64 → node_y r m ≤ 64 → Movable (fields_at r m) n b
-    movable x y = record { small_x = x; small_y = y; few_nodes = h; few_binders = g }
+    movable : node_kind r m ≤ 8 → node_x r m ≤ 64 → node_y r m ≤ 64 → Movable (fields_at r m) n b
+    movable k x y = record { known = k; small_x = x; small_y = y; few_nodes = h; few_binders = g }
 
     bound_few : node_kind r m ≡ 6 → node_x r m ≤ 64
     bound_few k = let q = (kept.bound m l k).binds in
         omega (arith, q.numbered, binders_rise r (kept.bound m l k).at (node_count r) (omega (arith, q.among)), kept.few_binders)
 
     go : {e : ℕ} → Subtree entries r m e → e ≤ node_count r → Movable (fields_at r m) n b
-    go (Subtree.constant k x y) u = movable (omega arith) (omega arith)
-    go (Subtree.variable k y) u = movable (bound_few k) (omega arith)
-    go (Subtree.pair k x p y q) u = movable (omega (arith, kept.few_nodes, subtree_after p, subtree_after q)) (omega (arith, kept.few_nodes, subtree_after q))
-    go (Subtree.modal k x y p) u = movable (omega arith) (omega (arith, kept.few_nodes, subtree_after p))
+    go (Subtree.constant k x y) u = movable (omega arith) (omega arith) (omega arith)
+    go (Subtree.variable k y) u = movable (omega arith) (bound_few k) (omega arith)
+    go (Subtree.pair k x p y q) u = movable (omega (arith, ranged (node_kind r m) 2 k)) (omega (arith, kept.few_nodes, subtree_after p, subtree_after q)) (omega (arith, kept.few_nodes, subtree_after q))
+    go (Subtree.modal k x y p) u = movable (omega (arith, ranged (node_kind r m) 4 k)) (omega arith) (omega (arith, kept.few_nodes, subtree_after p))
     go (Subtree.binder k y p) u =
         let g = ranged (node_kind r m) 7 k in
-        movable (omega (arith, kept.binder_numbers m l (kind_binder r m g.0 g.1), binders_rise r m (node_count r) (omega arith), kept.few_binders))
+        movable (omega (arith, g)) (omega (arith, kept.binder_numbers m l (kind_binder r m g.0 g.1), binders_rise r m (node_count r) (omega arith), kept.few_binders))
         (omega (arith, kept.few_nodes, subtree_after p))
 
 module _ (n b : ℕ) (r : List ℕ) where

@@ -17,6 +17,13 @@ module _ {p : List ℕ} {Second : ℕ → ℕ → Type 0} where
   part_some (PartAt.choice o s q r) = omega (arith, part_some q, part_some r)
   part_some (PartAt.repetition o q) = omega (arith, part_some q)
 
+  -- the byte that a part begins with is the number of a kind
+  pub part_known : {R : Pattern} {at end : ℕ} → PartAt p Second R at end → byte p at ≤ 3
+  part_known (PartAt.action o x e u) = omega arith
+  part_known (PartAt.sequence o s q r) = omega arith
+  part_known (PartAt.choice o s q r) = omega arith
+  part_known (PartAt.repetition o q) = omega arith
+
   -- what is said of every part that begins with a byte, by that byte
   module _ (X : Pattern → Type 0) where
     pub by_action : {R : Pattern} {at end : ℕ} → byte p at ≡ 0 → ((e : ℕ) → byte p (at + 1) ≡ e → X (Pattern.action e)) → PartAt p Second R at end → X R
@@ -41,12 +48,12 @@ module _ {p : List ℕ} {Second : ℕ → ℕ → Type 0} where
     by_choice o f (PartAt.choice {R = Q} {Q = T} {m = m} o' s q r) = f Q T m s q r
     by_choice o f (PartAt.repetition o' q) = absurd (omega arith)
 
-    pub by_repetition : {R : Pattern} {at end : ℕ} → 2 < byte p at
-        → ((Q : Pattern) → byte p at ≡ 3 → PartAt p Second Q (at + 1) end → X (Pattern.repetition Q)) → PartAt p Second R at end → X R
+    pub by_repetition : {R : Pattern} {at end : ℕ} → byte p at ≡ 3 → ((Q : Pattern) → PartAt p Second Q (at + 1) end → X (Pattern.repetition Q))
+        → PartAt p Second R at end → X R
     by_repetition o f (PartAt.action o' x l u) = absurd (omega arith)
     by_repetition o f (PartAt.sequence o' s q r) = absurd (omega arith)
     by_repetition o f (PartAt.choice o' s q r) = absurd (omega arith)
-    by_repetition o f (PartAt.repetition {R = Q} o' q) = f Q o' q
+    by_repetition o f (PartAt.repetition {R = Q} o' q) = f Q q
 
   -- a part is within the pattern
   pub part_inside : {R : Pattern} {at end : ℕ} → PartAt p Second R at end → end ≤ length p

@@ -22,13 +22,13 @@ use Rattle.patterns.proofs.Steps.Follow.{follows_set}
 use Rattle.patterns.proofs.Steps.PartSteps.{part_place, making_on}
 use Rattle.patterns.proofs.Steps.ChoiceSteps.{told_followed}
 
-module _ {r p seconds slots : List ℕ} {at after n b : ℕ} {out : List ℕ} (h : PartRequires r p seconds slots at after n b out) (o : 2 < byte p at) where
+module _ {r p seconds slots : List ℕ} {at after n b : ℕ} {out : List ℕ} (h : PartRequires r p seconds slots at after n b out) (o : byte p at ≡ 3) where
   -- its nodes or its binder have no room
   pub put_over : (64 ≤ n + 1) ⊎ (6 ≤ b) → PartPut r p seconds slots slots at after n b out out Exceeded
   unfolding before tree_size binders
   put_over l = record {
     made = λ R end k q f. by_repetition (λ R. Progressed (before (every_of p) R k b) n b out out Exceeded) o
-        (λ Q e u. Progressed.exceeded (⊎_elim (λ v. Exceeds.nodes (omega (arith, size_some (k (suc b))))) (λ v. Exceeds.bound (omega arith)) l)) q;
+        (λ Q u. Progressed.exceeded (⊎_elim (λ v. Exceeds.nodes (omega (arith, size_some (k (suc b))))) (λ v. Exceeds.bound (omega arith)) l)) q;
     same = λ i u. refl;
     sized = refl;
   }
@@ -85,7 +85,7 @@ module _ {r p seconds slots : List ℕ} {at after n b : ℕ} {out : List ℕ} (h
       pub put_follow_exceeded : x₁ ≡ Exceeded → PartPut r p seconds slots slots₁ at after n b out out₂ Exceeded
       put_follow_exceeded e = record {
         made = λ R end k q f. by_repetition (λ R. Progressed (before (every_of p) R k b) n b out out₂ Exceeded) o
-            (λ Q i u. over Q k (under (again Q k) (subst (Progressed (k (suc b)) (n + 1 + 1) (b + 1) out₁ out₂) e (follow_is f)))) q;
+            (λ Q u. over Q k (under (again Q k) (subst (Progressed (k (suc b)) (n + 1 + 1) (b + 1) out₁ out₂) e (follow_is f)))) q;
         same = same_slots;
         sized = sized_slots;
       }
@@ -105,7 +105,7 @@ module _ {r p seconds slots : List ℕ} {at after n b : ℕ} {out : List ℕ} (h
 
         variable_follows : (floor : ℕ) → Follows p seconds slots₁ (every_of p) (tree_of r) floor at (λ m. Tree.variable b)
         variable_follows floor =
-            Follows.variable (part_place h).0 (omega (arith, part_place h)) (by_repetition (λ R. byte p at ≡ 3) o (λ Q i u. i) h.part)
+            Follows.variable (part_place h).0 (omega (arith, part_place h)) o
             (same_noted at (omega arith) ∙ get_or-set_same slots at b 0 (omega (arith, h.room, part_place h)))
 
         pub call_repeat : PartRequires r p seconds slots₁ (at + 1) at n₁ b₁ out₃
@@ -127,7 +127,7 @@ module _ {r p seconds slots : List ℕ} {at after n b : ℕ} {out : List ℕ} (h
             → PartPut r p seconds slots slots₂ at after n b out out₄ x₂
         put_repetition {slots₂} {out₄} {x₂} d = record {
           made = λ R end k q f. by_repetition (λ R. Progressed (before (every_of p) R k b) n b out out₄ x₂) o
-              (λ Q j u.
+              (λ Q u.
               let first = told_followed (follow_is f) e in
               let i : b₁ ≡ suc b + binders (k (suc b)) = omega (arith, first.binders_are) in
               over Q k

@@ -27,7 +27,7 @@ module _ {p : List ℕ} {Second : ℕ → ℕ → Type 0} where
   two_inside (PartAt.choice {R} {Q} {m = m} o s q r) l u = record { first = R; second = Q; m = m; noted = s; part_first = q; part_second = r }
   two_inside (PartAt.repetition o q) l u = absurd (omega arith)
 
-  pub one_inside : {R : Pattern} {at end : ℕ} → PartAt p Second R at end → 2 < byte p at → (Q : Pattern) × PartAt p Second Q (at + 1) end
+  pub one_inside : {R : Pattern} {at end : ℕ} → PartAt p Second R at end → byte p at ≡ 3 → (Q : Pattern) × PartAt p Second Q (at + 1) end
   one_inside (PartAt.action o x e i) u = absurd (omega arith)
   one_inside (PartAt.sequence o s q r) u = absurd (omega arith)
   one_inside (PartAt.choice o s q r) u = absurd (omega arith)
@@ -61,11 +61,11 @@ module _ {p seconds : List ℕ} {at : ℕ} (h : PartHere p at seconds) where
       action_noted (PartAt.repetition o' q) = absurd (omega arith)
 
   -- the part of a repetition
-  pub here_one : 2 < byte p at → PartHere p (at + 1) seconds
+  pub here_one : byte p at ≡ 3 → PartHere p (at + 1) seconds
   here_one o = let q = one_inside h.part o in
       record { pattern = q.0; end = h.end; part = q.1; short = h.short; room = h.room }
 
-  pub noted_one : 2 < byte p at → {seconds' : List ℕ} {r : ℕ} → SecondsNoted p (at + 1) seconds seconds' r → SecondsNoted p at seconds seconds' r
+  pub noted_one : byte p at ≡ 3 → {seconds' : List ℕ} {r : ℕ} → SecondsNoted p (at + 1) seconds seconds' r → SecondsNoted p at seconds seconds' r
   noted_one o {seconds'} {r} m = record {
     ends = λ R end q. m.ends (one_inside q o).0 end (one_inside q o).1;
     noted = λ R end q. one_noted q;

@@ -20,8 +20,9 @@ moved n b f =
     (pick (eqb f.kind 6) (record { kind = f.kind; x = f.x + b; y = f.y })
     (record { kind = f.kind; x = f.x + b; y = f.y + n }))))
 
--- its numbers are small enough for that
+-- its kind is one, and its numbers are small enough for that
 pub record Movable (f : Fields) (n b : ℕ) : Type 0 where
+  pub known : f.kind ≤ 8
   pub small_x : f.x ≤ 64
   pub small_y : f.y ≤ 64
   pub few_nodes : n ≤ 64

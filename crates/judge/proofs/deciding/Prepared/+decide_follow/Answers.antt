@@ -15,22 +15,22 @@ use Rattle.judge.specs.Internal.Deciding.{DecideRequires, FollowRequires}
 use Rattle.judge.specs.Internal.Packed.{verdict_in}
 use Rattle.judge.proofs.Steps.DecideSteps.{rank_at, kind_at, x_at, y_at}
 use Rattle.judge.proofs.Steps.Turns.{walk_rank, meets_at, modal_node_at, state_at, transition_at_lem, met}
-use Rattle.judge.proofs.deciding.+decide_follow.Goals.{follow-then-has_bit+else-decides, follow-else-has_bit, decide-After-binder_of-binder, decide-After-cell_position-at, decide-After-decide-first, decide-After-decide-second, decide-After-decides, decide-After-follow-w, decide-After-follow-w-in-Box, decide-After-kind_of-k, decide-After-opening-inner, decide-After-constant-w, decide-In-Or, decide-In-Least, decide-Start, decide-Then-is_outer, follow-After-decide-w, follow-After-decides, follow-After-has_bit, follow-At-loop-i, follow-In-loop-i, follow-Start}
+use Rattle.judge.proofs.deciding.Prepared.+decide_follow.Goals.{follow-then-has_bit+else-decides, follow-else-has_bit, decide-After-binder_of-binder, decide-After-cell_position-at, decide-After-decide-first, decide-After-decide-second, decide-After-decides, decide-After-follow-w, decide-After-follow-w-in-Box, decide-After-kind_of-k, decide-After-opening-inner, decide-After-constant-w, decide-In-Or, decide-In-Least, decide-Start, decide-Then-is_outer, follow-After-decide-w, follow-After-decides, follow-After-has_bit, follow-At-loop-i, follow-In-loop-i, follow-Start}
 use Rattle.judge.specs.Internal.Index.{TransitionAt}
 use Rattle.judge.proofs.Steps.FollowWalk.{WalkedTo, walk_start, walk_finish, sum_small, call_child, turn_decided, turn_on, turn_past}
 use Rattle.judge.proofs.Steps.DecideCalls as calls
 use Rattle.judge.proofs.Steps.DecideAnswers as answers
-use Rattle.judge.proofs.deciding.+decide_follow.Goals as goal
+use Rattle.judge.proofs.deciding.Prepared.+decide_follow.Goals as goal
 
 -- ---- deciding
 
 -- ---- the start: the sheet, the index, the table and the cell
 module _ {t : ℕ} (c : decide-Start t) where
   abbrev sheet : List ℕ
-  sheet = c.args.sheet.now
+  sheet = c.args.self.now.sheet.now
 
   abbrev index : Index
-  index = c.args.index.now
+  index = c.args.self.now.index.now
 
   abbrev table : List ℕ
   table = c.args.table.now
@@ -429,10 +429,10 @@ decide-returns-in-Least t c =
 -- ---- the start: the walk_sheet, the walk_index, the walk_table, the walk_node and the state
 module _ {t : ℕ} (c : follow-Start t) where
   abbrev walk_sheet : List ℕ
-  walk_sheet = c.args.sheet.now
+  walk_sheet = c.args.self.now.sheet.now
 
   abbrev walk_index : Index
-  walk_index = c.args.index.now
+  walk_index = c.args.self.now.index.now
 
   abbrev walk_table : List ℕ
   walk_table = c.args.table.now
@@ -515,7 +515,7 @@ follow-loop-i-init t c =
 
 -- ---- a transition's action
 pub follow-label_of-requires : goal.follow-label_of-requires
-follow-label_of-requires t c = transition c
+follow-label_of-requires t c = transition (goal.at.follow-label_of-requires t c).In-loop-i
 
 -- ---- it meets the formula
 pub follow-target_of-requires : goal.follow-target_of-requires
