@@ -6,6 +6,7 @@ use Rattle.sheet.specs.Plan.{state_count, action_count, transition_count, origin
 use Rattle.sheet.specs.WellFormed.{WellFormedPlan}
 use Rattle.graph.specs.Index.{Sized}
 use Rattle.graph.specs.declared.Index.{Index}
+use Rattle.graph.specs.declared.searching.Colour.TheVariants.{Unseen}
 use Rattle.graph.specs.Loops.{Reachable}
 use Rattle.graph.specs.LoopTest.{loop_free}
 use Rattle.graph.specs.Search.{found_none, index_left, colours_left, explored, explored_all}
@@ -45,7 +46,7 @@ SearchRight =
 abbrev pub SearchWithin : Type 0
 SearchWithin =
     (p : List ℕ) (index : Index) (state : ℕ) → ExploreRequires p index state
-    → (u : ℕ) → get_or (colours_left (explored p index state)) u 0 ≢ 0 → Reachable (successors p) state u
+    → (u : ℕ) → get_or (colours_left (explored p index state)) u Unseen ≢ Unseen → Reachable (successors p) state u
 
 -- ---- the search from several states
 

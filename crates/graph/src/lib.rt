@@ -31,6 +31,7 @@ impl Index {
 }
 
 // The states that a search from several starts from: those whose entry is not 0.
+// They are bytes because explore_all, a public call, takes any bytes: a narrower type would ask more of its callers.
 pub type Starts = [u8; MOST_STATES];
 
 pub const MOST_STATES: usize = 128;

@@ -1,22 +1,27 @@
 // The search of what can be reached from a state, or from several: depth first, with a colour for each state. It looks for a loop, and stores
 // where the transitions of each state that it comes to begin and end, and which actions they have. It is the search of specs/Search.antt, of
 // any bytes.
-ghost use Rattle.std.specs.Prelude.{◌≡◌, ◌+◌, ◌*◌, ◌<◌, ◌≤◌, length, get_or, ltb};
+ghost use Rattle.std.specs.Prelude.{◌≡◌, ◌+◌, ◌*◌, ◌<◌, ◌≤◌, length, get_or};
 ghost use Rattle.sheet.specs.Plan.{origin, label, target};
-ghost use Rattle.graph.specs.Search.{first_by_halving, found_none, index_left, explored, explored_all};
+ghost use Rattle.graph.specs.declared.searching.Colour.TheVariants.{Unseen};
+ghost use Rattle.graph.specs.Search.{colour_is_done, first_by_halving, found_none, index_left, explored, explored_all};
 ghost use Rattle.graph.specs.Internal.Searching.{TransitionsCounted, Visiting, Visited};
 
 use crate::{BYTE_VALUES, Index, Starts};
 use sheet::plan::transition_count;
 use sheet::{Action, State};
 
-// A state is not seen (0), open or done.
-const OPEN: u8 = 1;
-
-const DONE: u8 = 2;
+// A state's colour.
+#[derive(Clone, Copy, PartialEq, Eq)]
+enum Colour {
+    Unseen,
+    // Its search is under way.
+    Open,
+    Done,
+}
 
 // A colour for each number that a byte can give a state.
-type Colours = [u8; BYTE_VALUES];
+type Colours = [Colour; BYTE_VALUES];
 
 fn origin_at(plan: &[u8], i: usize) -> State
     requires { 6 + 3 * i < length plan.now }
@@ -68,9 +73,9 @@ fn first_from(plan: &[u8], count: usize, state: State) -> usize
 }
 
 fn is_done(colours: &Colours, state: State) -> bool
-    ensures { result ≡ ltb 1 (get_or colours.now state.0 0) }
+    ensures { result ≡ colour_is_done (get_or colours.now state.0 Unseen) }
 {
-    OPEN < colours[state.0 as usize]
+    colours[state.0 as usize] == Colour::Done
 }
 
 // Whether the search from a state that is not done meets no open state. count is the number of transitions.
@@ -79,10 +84,10 @@ fn visit(plan: &[u8], count: usize, index: &mut Index, colours: &mut Colours, st
     ensures { Visited plan.now index.old colours.old index.new colours.new state.0 result }
 {
     let at = state.0 as usize;
-    if colours[at] == OPEN {
+    if colours[at] == Colour::Open {
         return false;
     }
-    colours[at] = OPEN;
+    colours[at] = Colour::Open;
     let first = first_from(plan, count, state);
     index.firsts[at] = first as u16;
     let mut end = first;
@@ -99,7 +104,7 @@ fn visit(plan: &[u8], count: usize, index: &mut Index, colours: &mut Colours, st
         end = i + 1;
     }
     index.firsts[at + 1] = end as u16;
-    colours[at] = DONE;
+    colours[at] = Colour::Done;
     true
 }
 
@@ -110,7 +115,7 @@ pub fn explore(plan: &[u8], index: &mut Index, state: State) -> bool
     ensures index_after { index.new ≡ index_left (explored plan.now index.old state.0) }
 {
     let count = count_held(plan);
-    let mut colours = [0u8; BYTE_VALUES];
+    let mut colours = [Colour::Unseen; BYTE_VALUES];
     visit(plan, count, index, &mut colours, state)
 }
 
@@ -121,7 +126,7 @@ pub fn explore_all(plan: &[u8], index: &mut Index, starts: &Starts) -> bool
     ensures index_after { index.new ≡ index_left (explored_all plan.now index.old starts.now) }
 {
     let count = count_held(plan);
-    let mut colours = [0u8; BYTE_VALUES];
+    let mut colours = [Colour::Unseen; BYTE_VALUES];
     for (s, start) in starts.iter().enumerate() {
         if *start == 0 || is_done(&colours, State(s as u8)) {
             continue;

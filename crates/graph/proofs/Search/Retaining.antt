@@ -10,6 +10,8 @@ use lib.Seq.{get_or-set_same, get_or-set_other}
 use Rattle.sheet.specs.Plan.{state_count, label, target}
 use Rattle.sheet.specs.WellFormed.{WellFormedPlan}
 use Rattle.graph.specs.declared.Index.{Index}
+use Rattle.graph.specs.declared.searching.Colour.{Colour}
+use Rattle.graph.specs.declared.searching.Colour.TheVariants.{Unseen, Done}
 use Rattle.graph.specs.Index.{Sized, Blank, with_first, with_action}
 use Rattle.graph.specs.Explored.{first_from, Indexed}
 use Rattle.graph.specs.Internal.Searching.{DoneState, Coloured, Retains}
@@ -63,12 +65,12 @@ indexed_on {p} {u = u} x k = record {
 }
 
 -- what is done stays done, whatever else is
-pub done_on : {p : List ℕ} {l m : Index} {c d : List ℕ} {u : ℕ} → Retains p l m → ((v : ℕ) → 1 < get_or c v 0 → 1 < get_or d v 0) → DoneState p l c u → DoneState p m d u
+pub done_on : {p : List ℕ} {l m : Index} {c d : List Colour} {u : ℕ} → Retains p l m → ((v : ℕ) → get_or c v Unseen ≡ Done → get_or d v Unseen ≡ Done) → DoneState p l c u → DoneState p m d u
 done_on {p} x keeps done = record {
   is_settled = done.is_settled;
   indexed = indexed_on x done.indexed;
   leads_on = λ i a b. keeps (target p i) (done.leads_on i a b);
 }
 
-pub coloured_on : {p : List ℕ} {l m : Index} {c : List ℕ} → Retains p l m → Coloured p l c → Coloured p m c
+pub coloured_on : {p : List ℕ} {l m : Index} {c : List Colour} → Retains p l m → Coloured p l c → Coloured p m c
 coloured_on x coloured = record { done = λ u h. done_on x (λ v e. e) (coloured.done u h) }

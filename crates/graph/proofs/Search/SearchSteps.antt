@@ -1,31 +1,33 @@
 -- The steps of a search in a well-formed plan, and what it leaves.
-use Prim.Native.Nat.{ℕ, ◌+◌, ◌<◌, ◌≤◌}
+use Prim.Native.Nat.{ℕ, ◌+◌, ◌<◌}
 use mathlib.Core.Bool.{true, false, true≢false}
 use mathlib.Core.List.{List, Memᴰ}
 use mathlib.Core.Logic.{◌⊎◌, inl, inr, ◌≢◌}
-use mathlib.Core.Path.{◌≡◌, refl, sym, subst, ◌∙◌}
+use mathlib.Core.Path.{◌≡◌, refl, sym, ap, subst, ◌∙◌}
 use native.Mathlib.Omega.{arith}
-use native.Mathlib.Decide.{dec_lt, ℕ_discrete}
+use native.Mathlib.Decide.{dec_lt}
 use lib.ListN.{length, get_or, set, length-set}
 use lib.Seq.{get_or-set_same}
 use Rattle.sheet.specs.Plan.{state_count, transition_count, label, target}
 use Rattle.sheet.specs.WellFormed.{WellFormedPlan}
 use Rattle.graph.specs.declared.Index.{Index}
+use Rattle.graph.specs.declared.searching.Colour.{Colour}
+use Rattle.graph.specs.declared.searching.Colour.TheVariants.{Unseen, Open, Done}
 use Rattle.graph.specs.Index.{Sized, with_first, with_action}
 use Rattle.graph.specs.LoopTest.{settled}
 use Rattle.graph.specs.Loops.{Way, last, Reachable}
 use Rattle.graph.specs.Successors.{successors}
 use Rattle.graph.specs.Explored.{first_from}
-use Rattle.graph.specs.Internal.Searching.{unseen, DoneState, Coloured, Searching, Retains, Finished, Searched}
+use Rattle.graph.specs.Internal.Searching.{colour_number, unseen_states, DoneState, Coloured, Searching, Retains, Finished, Searched}
 use Rattle.rows.proofs.Tables.Among.{false_if}
 use Rattle.graph.proofs.Looptest.Settled.{settled_no_loop, way_on, onward}
 use Rattle.graph.proofs.Looptest.Height.{successor_settled}
 use Rattle.graph.proofs.Search.Outgoing.{is_outgoing, first_order, successor_at, settled_by_targets}
 use Rattle.graph.proofs.Search.Retaining.{retains_self, retains_then, retains_first, retains_note, coloured_on}
 use Rattle.graph.proofs.Search.Partway.{Partway, done_already}
-use Rattle.graph.proofs.Search.Colouring.{unseen_set, unseen_falls, stored, recoloured, coloured_set, opened_keeps, closed_keeps}
+use Rattle.graph.proofs.Search.Colouring.{colour_discrete, open_seen, done_seen, unseen_set, unseen_falls, stored, recoloured, coloured_set, opened_keeps, closed_keeps}
 
-module _ {p : List ℕ} {index : Index} {before : List ℕ} {s : ℕ} (asked : Searching p index before s) where
+module _ {p : List ℕ} {index : Index} {before : List Colour} {s : ℕ} (asked : Searching p index before s) where
   kept : WellFormedPlan p
   kept = asked.explores.kept
 
@@ -36,7 +38,7 @@ module _ {p : List ℕ} {index : Index} {before : List ℕ} {s : ℕ} (asked : S
   inside = omega (arith, below, asked.room, kept.few_states)
 
   -- a state met while it is open lies on a loop
-  pub met_open : get_or before s 0 ≡ 1 → Searched p index before index before s false
+  pub met_open : get_or before s Unseen ≡ Open → Searched p index before index before s false
   met_open e = record {
     looped = λ q. false_if _ (λ h. settled_no_loop (successors p) (state_count p) s h (asked.open_leads s e));
     finished = λ q. absurd (true≢false (sym q));
@@ -44,9 +46,9 @@ module _ {p : List ℕ} {index : Index} {before : List ℕ} {s : ℕ} (asked : S
   }
 
   -- the search of s begins: it has stored where the transitions begin
-  module _ (unseen_yet : get_or before s 0 ≡ 0) where
-    pub fewer : unseen (set before s 1) < unseen before
-    fewer = unseen_falls before s 0 inside unseen_yet
+  module _ (unseen_yet : get_or before s Unseen ≡ Unseen) where
+    pub fewer : unseen_states (set before s Open) < unseen_states before
+    fewer = unseen_falls before s inside unseen_yet
 
     abbrev pub begun : Index
     begun = with_first index s (first_from p s)
@@ -57,16 +59,16 @@ module _ {p : List ℕ} {index : Index} {before : List ℕ} {s : ℕ} (asked : S
     begun_first : get_or begun.firsts s 0 ≡ first_from p s
     begun_first = get_or-set_same index.firsts s (first_from p s) 0 (omega (arith, asked.explores.sized, below, kept.few_states))
 
-    pub partway_start : Partway p begun (set before s 1) begun (set before s 1) s (first_from p s)
+    pub partway_start : Partway p begun (set before s Open) begun (set before s Open) s (first_from p s)
     partway_start = record {
       after_first = omega arith;
       before_end = first_order p kept s;
       same_length = refl;
       coloured =
-          coloured_set before s 1 inside
+          coloured_set before s Open inside
           (coloured_on begun_retains asked.coloured)
-          (opened_keeps before s 1 inside unseen_yet)
-          (λ h. absurd (omega arith));
+          (opened_keeps before s Open inside unseen_yet)
+          (λ h. absurd (omega (arith, ap colour_number h)));
       none_opened = λ u e. e;
       none_forgotten = omega arith;
       done_kept = λ u e. e;
@@ -76,12 +78,12 @@ module _ {p : List ℕ} {index : Index} {before : List ℕ} {s : ℕ} (asked : S
       within = λ u n. absurd (n refl);
     }
 
-    module _ {index' : Index} {colours : List ℕ} {i : ℕ} (partway : Partway p begun (set before s 1) index' colours s i) where
+    module _ {index' : Index} {colours : List Colour} {i : ℕ} (partway : Partway p begun (set before s Open) index' colours s i) where
       -- what is open is s, or was open before
-      was_open : (u : ℕ) → get_or colours u 0 ≡ 1 → (u ≡ s) ⊎ (get_or before u 0 ≡ 1)
-      was_open u e = go (recoloured before s 1 inside u 1 (partway.none_opened u e))
+      was_open : (u : ℕ) → get_or colours u Unseen ≡ Open → (u ≡ s) ⊎ (get_or before u Unseen ≡ Open)
+      was_open u e = go (recoloured before s Open inside u Open (partway.none_opened u e))
         where
-          go : ((u ≡ s) × (◌≡◌ {A = ℕ} 1 1)) ⊎ ((u ≢ s) × (get_or before u 0 ≡ 1)) → (u ≡ s) ⊎ (get_or before u 0 ≡ 1)
+          go : ((u ≡ s) × (◌≡◌ {A = Colour} Open Open)) ⊎ ((u ≢ s) × (get_or before u Unseen ≡ Open)) → (u ≡ s) ⊎ (get_or before u Unseen ≡ Open)
           go (inl q) = inl q.0
           go (inr q) = inr q.1
 
@@ -92,13 +94,13 @@ module _ {p : List ℕ} {index : Index} {before : List ℕ} {s : ℕ} (asked : S
       sized = partway.retains.size (begun_retains.size asked.explores.sized)
 
       -- what has changed since s was met can be reached from s, if what has changed since transition i can
-      reached : (after : List ℕ) → ((u : ℕ) → get_or after u 0 ≢ get_or colours u 0 → Reachable (successors p) s u)
-          → (u : ℕ) → get_or after u 0 ≢ get_or before u 0 → Reachable (successors p) s u
+      reached : (after : List Colour) → ((u : ℕ) → get_or after u Unseen ≢ get_or colours u Unseen → Reachable (successors p) s u)
+          → (u : ℕ) → get_or after u Unseen ≢ get_or before u Unseen → Reachable (successors p) s u
       reached after since u n =
-          elim (ℕ_discrete (get_or after u 0) (get_or colours u 0)) [
+          elim (colour_discrete (get_or after u Unseen) (get_or colours u Unseen)) [
             | yes e ↦
-                elim (ℕ_discrete (get_or colours u 0) (get_or (set before s 1) u 0)) [
-                  | yes f ↦ inl (stored before s 1 u (λ g. n (e ∙ (f ∙ g))))
+                elim (colour_discrete (get_or colours u Unseen) (get_or (set before s Open) u Unseen)) [
+                  | yes f ↦ inl (stored before s Open u (λ g. n (e ∙ (f ∙ g))))
                   | no f ↦ inr (partway.within u f)
                 ]
             | no e ↦ since u e
@@ -127,7 +129,7 @@ module _ {p : List ℕ} {index : Index} {before : List ℕ} {s : ℕ} (asked : S
         noted_coloured : Coloured p noted colours
         noted_coloured = coloured_on noting partway.coloured
 
-        pub target_asked : get_or colours (target p i) 0 ≤ 1 → Searching p noted colours (target p i)
+        pub target_asked : get_or colours (target p i) Unseen ≢ Done → Searching p noted colours (target p i)
         target_asked h = record {
           explores = record {
             kept = kept;
@@ -141,15 +143,15 @@ module _ {p : List ℕ} {index : Index} {before : List ℕ} {s : ℕ} (asked : S
           open_leads = λ u e. go u (was_open u e);
         }
           where
-            go : (u : ℕ) → (u ≡ s) ⊎ (get_or before u 0 ≡ 1) → Way (successors p) u (target p i)
+            go : (u : ℕ) → (u ≡ s) ⊎ (get_or before u Unseen ≡ Open) → Way (successors p) u (target p i)
             go u (inl q) = subst (λ (v : ℕ). Way (successors p) v (target p i)) (sym q) (last follows)
             go u (inr q) = way_on (asked.open_leads u q) follows
 
         -- it is done: there is nothing to search
-        pub target_done : 1 < get_or colours (target p i) 0 → Searched p noted colours noted colours (target p i) true
+        pub target_done : get_or colours (target p i) Unseen ≡ Done → Searched p noted colours noted colours (target p i) true
         target_done h = done_already (target p i) noted_coloured h
 
-        module _ {index'' : Index} {after : List ℕ} where
+        module _ {index'' : Index} {after : List Colour} where
           -- it met a loop: it can be reached from s too
           pub loop_below : Searched p noted colours index'' after (target p i) false → Searched p index before index'' after s false
           loop_below got = record {
@@ -161,7 +163,7 @@ module _ {p : List ℕ} {index : Index} {before : List ℕ} {s : ℕ} (asked : S
               unsettled : settled (successors p) (state_count p) (target p i) ≡ true → ⊥
               unsettled e = true≢false (sym e ∙ got.looped refl)
 
-          pub partway_next : Searched p noted colours index'' after (target p i) true → Partway p begun (set before s 1) index'' after s (i + 1)
+          pub partway_next : Searched p noted colours index'' after (target p i) true → Partway p begun (set before s Open) index'' after s (i + 1)
           partway_next got = record {
             after_first = omega (arith, partway.after_first);
             before_end = omega (arith, more);
@@ -173,7 +175,7 @@ module _ {p : List ℕ} {index : Index} {before : List ℕ} {s : ℕ} (asked : S
             retains = retains_then partway.retains (retains_then noting f.retains);
             passed = λ k a b. elim (dec_lt k i) [
               | yes q ↦ f.done_kept (target p k) (partway.passed k a q)
-              | no q ↦ let g : i ≡ k = omega arith in subst (λ (v : ℕ). 1 < get_or after (target p v) 0) g f.state_done
+              | no q ↦ let g : i ≡ k = omega arith in subst (λ (v : ℕ). get_or after (target p v) Unseen ≡ Done) g f.state_done
             ];
             noted = λ k a b. elim (dec_lt k i) [
               | yes q ↦ f.retains.notes_kept (label p k) (noting.notes_kept (label p k) (partway.noted k a q))
@@ -181,7 +183,7 @@ module _ {p : List ℕ} {index : Index} {before : List ℕ} {s : ℕ} (asked : S
                   let g : i ≡ k = omega arith in
                   subst (λ (v : ℕ). get_or index''.actions (label p v) false ≡ true) g (f.retains.notes_kept (label p i) note)
             ];
-            within = λ u n. elim (ℕ_discrete (get_or after u 0) (get_or colours u 0)) [
+            within = λ u n. elim (colour_discrete (get_or after u Unseen) (get_or colours u Unseen)) [
               | yes q ↦ partway.within u (λ g. n (q ∙ g))
               | no q ↦ onward follows (got.within u q)
             ];
@@ -201,10 +203,10 @@ module _ {p : List ℕ} {index : Index} {before : List ℕ} {s : ℕ} (asked : S
         ending : Retains p index' ended
         ending = retains_first kept index' sized (s + 1) i (omega (arith, below)) e
 
-        keeps : (v : ℕ) → 1 < get_or colours v 0 → 1 < get_or (set colours s 2) v 0
-        keeps = closed_keeps colours s 2 room (omega arith)
+        keeps : (v : ℕ) → get_or colours v Unseen ≡ Done → get_or (set colours s Done) v Unseen ≡ Done
+        keeps = closed_keeps colours s Done room refl
 
-        done : DoneState p ended (set colours s 2) s
+        done : DoneState p ended (set colours s Done) s
         done = record {
           is_settled =
               settled_by_targets p kept s below
@@ -218,25 +220,25 @@ module _ {p : List ℕ} {index : Index} {before : List ℕ} {s : ℕ} (asked : S
           leads_on = λ k a b. keeps (target p k) (partway.passed k a (omega (arith, e)));
         }
 
-        before_too : (u : ℕ) → u ≢ s → (u ≡ s) ⊎ (get_or before u 0 ≡ 1) → get_or before u 0 ≡ 1
+        before_too : (u : ℕ) → u ≢ s → (u ≡ s) ⊎ (get_or before u Unseen ≡ Open) → get_or before u Unseen ≡ Open
         before_too u n (inl q) = absurd (n q)
         before_too u n (inr q) = q
 
-        closed : (u : ℕ) → ((u ≡ s) × (◌≡◌ {A = ℕ} 1 2)) ⊎ ((u ≢ s) × (get_or colours u 0 ≡ 1)) → get_or before u 0 ≡ 1
-        closed u (inl q) = absurd (omega (arith, q.1))
+        closed : (u : ℕ) → ((u ≡ s) × (◌≡◌ {A = Colour} Open Done)) ⊎ ((u ≢ s) × (get_or colours u Unseen ≡ Open)) → get_or before u Unseen ≡ Open
+        closed u (inl q) = absurd (omega (arith, ap colour_number q.1))
         closed u (inr q) = before_too u q.0 (was_open u q.1)
 
-        pub all_passed : Searched p index before ended (set colours s 2) s true
+        pub all_passed : Searched p index before ended (set colours s Done) s true
         all_passed = record {
           looped = λ q. absurd (true≢false q);
           finished = λ q. record {
-            state_done = omega (arith, get_or-set_same colours s 2 0 room);
+            state_done = get_or-set_same colours s Done Unseen room;
             same_length = simp length-set as_long;
-            coloured = coloured_set colours s 2 room (coloured_on ending partway.coloured) keeps (λ q. done);
-            none_opened = λ u e. closed u (recoloured colours s 2 room u 1 e);
-            none_forgotten = omega (arith, unseen_set colours s 1, partway.none_forgotten, unseen_set before s 0);
-            done_kept = λ u h. keeps u (partway.done_kept u (opened_keeps before s 1 inside unseen_yet u h));
+            coloured = coloured_set colours s Done room (coloured_on ending partway.coloured) keeps (λ q. done);
+            none_opened = λ u e. closed u (recoloured colours s Done room u Open e);
+            none_forgotten = omega (arith, unseen_set colours s Done done_seen, partway.none_forgotten, unseen_set before s Open open_seen);
+            done_kept = λ u h. keeps u (partway.done_kept u (opened_keeps before s Open inside unseen_yet u h));
             retains = retains_then (retains_then begun_retains partway.retains) ending;
           };
-          within = reached (set colours s 2) (λ u n. inl (stored colours s 2 u n));
+          within = reached (set colours s Done) (λ u n. inl (stored colours s Done u n));
         }

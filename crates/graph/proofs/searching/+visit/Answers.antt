@@ -3,20 +3,26 @@ use native.Mathlib.Omega.{arith}
 use mathlib.Core.Path.{◌≡◌, refl, sym, ap, subst, ◌∙◌}
 use mathlib.Core.Bool.{Bool, true, false}
 use mathlib.Core.List.{List}
-use Prim.Native.Nat.{ℕ, ◌<◌, ◌≤◌, ◌+◌}
+use mathlib.Core.Logic.{◌≢◌}
+use Prim.Native.Nat.{ℕ, ◌+◌}
+use denote.Enum.Bare.{same_true, same_false}
 use lib.ListN.{get_or, set, length-set}
-use borrow.Author.Tests.{ltb-true, ltb-false}
 use Rattle.sheet.specs.Plan.{target}
+use Rattle.graph.specs.contracts.searching.Colour.{the_type}
 use Rattle.graph.specs.declared.Index.{Index}
+use Rattle.graph.specs.declared.searching.Colour.{Colour}
+use Rattle.graph.specs.declared.searching.Colour.TheVariants.{Unseen, Open, Done}
 use Rattle.graph.specs.Index.{with_first, with_action}
+use Rattle.graph.specs.Search.{colour_is_done}
 use Rattle.graph.specs.Internal.Searching.{Visited}
+use Rattle.graph.proofs.Search.Colouring.{told_done, told_not_done}
 use Rattle.graph.proofs.Search.Halving.{held_inside}
 use Rattle.graph.proofs.Search.ScanSteps.{Begun, begins, Scanning, Turn, turns, visited_open, scan_starts, fewer_unseen, scan_past, scan_found, scan_next, scan_ends}
 use Rattle.graph.proofs.searching.+visit.Goals as goal
 use Rattle.graph.proofs.searching.+visit.Goals.{At-loop-i, After-is_done, else-loop-i-test, then-loop-i-test+then-origin_at-state, else-not-is_done-via-then-not-is_done+else-not-visit, else-not-is_done-via-else-not-is_done}
 
-pub returns-then-colours-at-eq-OPEN : goal.returns-then-colours-at-eq-OPEN
-returns-then-colours-at-eq-OPEN t c = visited_open _ _ _ _ c.if-colours-at-eq-OPEN.true
+pub returns-then-eq : goal.returns-then-eq
+returns-then-eq t c = visited_open _ _ _ _ (same_true the_type tt _ _ (sym c.eq.ensures ∙ c.if-eq.true))
 
 pub loop-i-init : goal.loop-i-init
 loop-i-init t c = (refl, scan_starts _ _ _ _ _ c.first_from-first.ensures.0 (omega (arith, c.first_from-first.ensures.1, c.requires.counted.is_held)))
@@ -26,13 +32,13 @@ module _ {t : ℕ} (c : At-loop-i t) where
   begun : Begun c.args.plan.now c.args.state.0 c.args.index.now c.args.colours.now
       (with_first c.args.index.now c.args.state.0 c.first_from-first.result)
   begun =
-      begins _ _ _ _ _ (omega (arith, c.requires.room)) c.requires.not_done c.if-colours-at-eq-OPEN.false c.first_from-first.ensures.0
+      begins _ _ _ _ _ (omega (arith, c.requires.room)) c.requires.not_done (same_false the_type _ _ (sym c.eq.ensures ∙ c.if-eq.false)) c.first_from-first.ensures.0
 
   -- the scan as it stands
-  abbrev Scanned : ℕ → Index → List ℕ → Type 0
+  abbrev Scanned : ℕ → Index → List Colour → Type 0
   Scanned i index colours =
       Scanning c.args.plan.now c.args.state.0 (with_first c.args.index.now c.args.state.0 c.first_from-first.result)
-      (set c.args.colours.now c.args.state.0 1) i index colours
+      (set c.args.colours.now c.args.state.0 Open) i index colours
 
 pub origin_at-requires : goal.origin_at-requires
 origin_at-requires t c = held_inside _ c.loop-i.i (omega (arith, c.requires.counted.is_held))
@@ -59,17 +65,17 @@ module _ {t : ℕ} (c : After-is_done t) where
       turns _ _ _ _ _ (omega (arith, c.requires.counted.is_held))
       (sym c.origin_at.ensures ∙ c.if-origin_at-state.false) c.label_at-action.ensures
 
-  low : c.is_done.result ≡ false → get_or c.loop-i.colours here 0 ≤ 1
-  low e = subst (λ (k : ℕ). get_or c.loop-i.colours k 0 ≤ 1) c.target_at-next.ensures (ltb-false 1 _ (sym c.is_done.ensures ∙ e))
+  low : c.is_done.result ≡ false → get_or c.loop-i.colours here Unseen ≢ Done
+  low e = told_not_done _ (ap (λ (k : ℕ). colour_is_done (get_or c.loop-i.colours k Unseen)) (sym c.target_at-next.ensures) ∙ (sym c.is_done.ensures ∙ e))
 
   -- the target is done
   past : c.is_done.result ≡ true → Scanned head (c.loop-i.i + 1) noted c.loop-i.colours
   past e =
       scan_past (begun head) c.loop-i.invariant.1 turn
-      (subst (λ (k : ℕ). 1 < get_or c.loop-i.colours k 0) c.target_at-next.ensures (ltb-true 1 _ (sym c.is_done.ensures ∙ e)))
+      (told_done _ (ap (λ (k : ℕ). colour_is_done (get_or c.loop-i.colours k Unseen)) (sym c.target_at-next.ensures) ∙ (sym c.is_done.ensures ∙ e)))
 
   -- the target is searched
-  module _ (e : c.is_done.result ≡ false) {index' : Index} {after : List ℕ} {r : Bool} where
+  module _ (e : c.is_done.result ≡ false) {index' : Index} {after : List Colour} {r : Bool} where
     got : {b : Bool} → r ≡ b → Visited c.args.plan.now noted c.loop-i.colours index' after c.target_at-next.result.0 r
         → Visited c.args.plan.now noted c.loop-i.colours index' after here b
     got f v =
@@ -90,7 +96,7 @@ visit-requires t c = (
   record {
     counted = c.requires.counted;
     room = c.loop-i.invariant.1.same_length ∙ (simp length-set c.requires.room);
-    not_done = ltb-false 1 _ (sym c.is_done.ensures ∙ c.if-not-is_done.true);
+    not_done = told_not_done _ (sym c.is_done.ensures ∙ c.if-not-is_done.true);
   },
 )
 

@@ -1,7 +1,7 @@
 -- `graph::searching::explore_all` meets its contract, by the steps of `sweep`.
 use native.Mathlib.Omega.{arith}
 use mathlib.Core.Path.{sym, ◌∙◌}
-use borrow.Author.Tests.{ltb-true, ltb-false}
+use Rattle.graph.proofs.Search.Colouring.{told_done, told_not_done}
 use Rattle.graph.proofs.Search.SweepSteps.{sweep_starts, sweep_ends, skip_past, skip_done, sweep_found, sweep_next}
 use Rattle.graph.proofs.searching.explore_all.Goals as goal
 use Rattle.graph.proofs.searching.explore_all.Goals.{then-start-eq0-via-then-start-eq0, then-start-eq0-via-else-start-eq0+then-is_done}
@@ -15,26 +15,26 @@ loop-s-preserved-then-start-eq0 c =
       | then-start-eq0-via-then-start-eq0 w ↦ skip_past c.loop-s.invariant (omega (arith, c.told-starts)) w.if-start-eq0.true
       | then-start-eq0-via-else-start-eq0+then-is_done w ↦
           skip_done c.loop-s.invariant (omega (arith, c.told-starts)) w.if-start-eq0.false
-          (ltb-true 1 _ (sym w.is_done.ensures ∙ w.if-is_done.true))
+          (told_done _ (sym w.is_done.ensures ∙ w.if-is_done.true))
     ]
 
 pub visit-requires : goal.visit-requires
 visit-requires c = record {
   counted = c.count_held-count.ensures;
   room = c.loop-s.invariant.room;
-  not_done = ltb-false 1 _ (sym c.is_done.ensures ∙ c.if-is_done.false);
+  not_done = told_not_done _ (sym c.is_done.ensures ∙ c.if-is_done.false);
 }
 
 pub loop-s-preserved : goal.loop-s-preserved
 loop-s-preserved c =
     sweep_next c.loop-s.invariant (omega (arith, c.told-starts)) c.if-start-eq0.false
-    (ltb-false 1 _ (sym c.is_done.ensures ∙ c.if-is_done.false)) c.if-not-visit.ensures
+    (told_not_done _ (sym c.is_done.ensures ∙ c.if-is_done.false)) c.if-not-visit.ensures
 
 pub returns-then-not-visit : goal.returns-then-not-visit
 returns-then-not-visit c =
     let found =
     sweep_found c.loop-s.invariant (omega (arith, c.told-starts)) c.if-start-eq0.false
-    (ltb-false 1 _ (sym c.is_done.ensures ∙ c.if-is_done.false)) c.if-not-visit.ensures
+    (told_not_done _ (sym c.is_done.ensures ∙ c.if-is_done.false)) c.if-not-visit.ensures
     in
     record { value = found.0; index_after = found.1 }
 
