@@ -41,12 +41,12 @@ def functions():
 
 
 # Enums that are no Option and no Result: what they name is one of several things, or an error.
-PROPER = r"(Refusal|Token|Operator|NodeKind|EntryKind|PartKind|Colour|Failing|Request|Stop|Expected \{$|\w+Error)"
+PROPER = r"(Refusal|Token|Operator|NodeKind|EntryKind|PartKind|Colour|Failing|Request|Stop|Expected|\w+Error)"
 
 
 def point1():
     own = [x for x in lines(r"^\s*(pub(\(\w+\))? )?enum \w") if not re.search(rf"enum {PROPER}\b", x)]
-    return own + lines(r"\b(every|kind|op|or|one): (u8|usize|bool)\b|\bover: u8|\bmatch (k|op|kind_at\(.*\)) \{|\bmark: u8,$|-> u32 *$.*packed")
+    return own + lines(r"\b(every|kind|op|or|one): (u8|usize)\b|\bover: u8|\bmatch (k|op|kind_at\(.*\)) \{|\bmark: u8,$|-> u32 *$.*packed")
 
 
 def point2():
