@@ -14,13 +14,13 @@ fn scan_block(block: &[u8]) -> Result<u8, Refusal>
     requires { length block.now < 256 }
     ensures { result ≡ scan_of block.now }
 {
-    let mut over = false;
+    let mut highest: u8 = 0;
     let mut filled: u8 = 0;
     for byte in block {
-        over |= *byte > 2;
+        highest = highest.max(*byte);
         filled += u8::from(*byte != 0);
     }
-    if over {
+    if highest > 2 {
         Err(Refusal::TableByte)
     } else {
         Ok(filled)
