@@ -1,5 +1,5 @@
 // Requests 12 and 13: a branch is proposed for a sheet, and added to one by a proposal.
-use crate::connection::{Connection, Stop};
+use crate::connection::{Buffers, Connection, Stop};
 use branches::Proposal;
 use sheet::{Action, Numbered, State, Transition};
 
@@ -27,10 +27,13 @@ fn read_proposal(connection: &mut Connection) -> Result<Proposal, Stop> {
     })
 }
 
-pub(crate) fn answer_propose(connection: &mut Connection) -> Result<(), Stop> {
-    let sheet = connection.read_blob()?;
+pub(crate) fn answer_propose(
+    connection: &mut Connection,
+    buffers: &mut Buffers,
+) -> Result<(), Stop> {
+    let sheet = connection.read_blob(&mut buffers.first)?;
     let branch = read_branch(connection)?;
-    let proposed = branches::proposing::propose(&sheet, branch);
+    let proposed = branches::proposing::propose(sheet, branch);
     let Proposal {
         insertion,
         length,
@@ -44,12 +47,16 @@ pub(crate) fn answer_propose(connection: &mut Connection) -> Result<(), Stop> {
     Ok(())
 }
 
-pub(crate) fn answer_commit(connection: &mut Connection) -> Result<(), Stop> {
-    let sheet = connection.read_blob()?;
+pub(crate) fn answer_commit(
+    connection: &mut Connection,
+    buffers: &mut Buffers,
+) -> Result<(), Stop> {
+    let sheet = connection.read_blob(&mut buffers.first)?;
     let branch = read_branch(connection)?;
     let proposal = read_proposal(connection)?;
-    let mut out = connection.read_buffer()?;
-    let length = branches::committing::commit(&sheet, branch, proposal, &mut out);
-    connection.write_answer("commit", length)?;
-    connection.write_bytes("out", &out)
+    let out = connection.read_buffer(&mut buffers.second)?;
+    let length = branches::committing::commit(sheet, branch, proposal, out);
+    connection.write_word("commit")?;
+    connection.write_answer(length)?;
+    connection.write_bytes("out", out)
 }

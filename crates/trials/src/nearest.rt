@@ -1,5 +1,5 @@
 // Request 17: the closest state that breaks the rule.
-use crate::connection::{Connection, Stop};
+use crate::connection::{Buffers, Connection, Stop};
 use closest::Closest;
 use sheet::Numbered;
 
@@ -8,10 +8,10 @@ const NOT_SEARCHED: Closest = Closest {
     visits: 0,
 };
 
-pub(crate) fn answer(connection: &mut Connection) -> Result<(), Stop> {
-    let sheet = connection.read_blob()?;
-    let mut table = connection.read_blob()?;
-    let answer = closest::finding::find_closest(&sheet, &mut table);
+pub(crate) fn answer(connection: &mut Connection, buffers: &mut Buffers) -> Result<(), Stop> {
+    let sheet = connection.read_blob(&mut buffers.first)?;
+    let table = connection.read_blob(&mut buffers.second)?;
+    let answer = closest::finding::find_closest(sheet, table);
     let Closest { first, visits } = answer.unwrap_or(NOT_SEARCHED);
     let (state, steps) = first.map_or((0, 0), |failing| (failing.state.0, failing.steps));
     println!(connection.output;
@@ -20,5 +20,5 @@ pub(crate) fn answer(connection: &mut Connection) -> Result<(), Stop> {
         answer.place(),
         first.is_some()
     )?;
-    connection.write_bytes("table", &table)
+    connection.write_bytes("table", table)
 }
