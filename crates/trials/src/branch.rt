@@ -1,13 +1,7 @@
 // Requests 12 and 13: a branch is proposed for a sheet, and added to one by a proposal.
 use crate::connection::{Buffers, Connection, Stop};
-use branches::Proposal;
+use branches::{CommitAnswer, Proposal, ProposeAnswer};
 use sheet::{Action, Numbered, State, Transition};
-
-const NO_PROPOSAL: Proposal = Proposal {
-    insertion: 0,
-    length: 0,
-    tag: 0,
-};
 
 // A transition: from, action, to.
 fn read_branch(connection: &mut Connection) -> Result<Transition, Stop> {
@@ -38,7 +32,7 @@ pub(crate) fn answer_propose(
         insertion,
         length,
         tag,
-    } = proposed.unwrap_or(NO_PROPOSAL);
+    } = proposed.proposal();
     println!(connection.output;
         "propose {} {} {insertion} {length} {tag}",
         proposed.number(),
@@ -55,8 +49,8 @@ pub(crate) fn answer_commit(
     let branch = read_branch(connection)?;
     let proposal = read_proposal(connection)?;
     let out = connection.read_buffer(&mut buffers.second)?;
-    let length = branches::committing::commit(sheet, branch, proposal, out);
+    let committed = branches::committing::commit(sheet, branch, proposal, out);
     connection.write_word("commit")?;
-    connection.write_answer(length)?;
+    connection.write_answer(&committed, committed.length())?;
     connection.write_bytes("out", out)
 }

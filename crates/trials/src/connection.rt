@@ -106,15 +106,15 @@ impl Connection {
         Ok(())
     }
 
-    // The rest of a line: the number and the place of an answer, and what the call gives: 0 or false where it turned its input down.
-    pub(crate) fn write_answer<T: Display + Default + Drop, E: Numbered + Drop>(
+    // The rest of a line: the number and the place of an answer, and what it reports besides.
+    pub(crate) fn write_answer<A: Numbered, T: Display + Drop>(
         &self,
-        answer: Result<T, E>,
+        answer: &A,
+        reported: T,
     ) -> Result<(), Stop> {
         let number = answer.number();
         let place = answer.place();
-        let given = answer.unwrap_or_default();
-        println!(self.output; " {number} {place} {given}")?;
+        println!(self.output; " {number} {place} {reported}")?;
         Ok(())
     }
 

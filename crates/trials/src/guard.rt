@@ -5,5 +5,5 @@ pub(crate) fn answer(connection: &mut Connection, buffers: &mut Buffers) -> Resu
     let sheet = connection.read_blob(&mut buffers.first)?;
     connection.write_word("guard")?;
     let guarded = calculus::guardedness::guard(sheet);
-    connection.write_answer(guarded)
+    connection.write_answer(&guarded, guarded.unwrap_or(false))
 }

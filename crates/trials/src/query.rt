@@ -1,12 +1,7 @@
 // Request 5: one query on a table as given.
 use crate::connection::{Buffers, Connection, Stop};
-use judge::Judged;
+use judge::QueryAnswer;
 use sheet::{Numbered, State};
-
-const NOT_JUDGED: Judged = Judged {
-    verdict: false,
-    visits: 0,
-};
 
 // Asks for the verdict at a state and writes the line of the answer.
 pub(crate) fn query(
@@ -17,11 +12,12 @@ pub(crate) fn query(
 ) -> Result<(), Stop> {
     connection.write_word("query")?;
     let answer = judge::querying::query(sheet, state, table);
-    let Judged { verdict, visits } = answer.unwrap_or(NOT_JUDGED);
     println!(connection.output;
-        " {} {} {verdict} {visits}",
+        " {} {} {} {}",
         answer.number(),
-        answer.place()
+        answer.place(),
+        answer.verdict(),
+        answer.visits()
     )?;
     Ok(())
 }

@@ -5,5 +5,5 @@ pub(crate) fn answer(connection: &mut Connection, buffers: &mut Buffers) -> Resu
     let sheet = connection.read_blob(&mut buffers.first)?;
     connection.write_word("reference")?;
     let word = reference::judging::reference(sheet);
-    connection.write_answer(word)
+    connection.write_answer(&word, word.unwrap_or(0))
 }

@@ -6,8 +6,8 @@ pub(crate) fn answer(connection: &mut Connection, buffers: &mut Buffers) -> Resu
     let actions = connection.read_blob(&mut buffers.second)?;
     let rule = connection.read_blob(&mut buffers.third)?;
     let out = connection.read_buffer(&mut buffers.fourth)?;
-    let length = sheet::writer::write(plan, actions, rule, out);
+    let written = sheet::writer::write(plan, actions, rule, out);
     connection.write_word("write")?;
-    connection.write_answer(length)?;
+    connection.write_answer(&written, written.unwrap_or(0))?;
     connection.write_bytes("out", out)
 }
