@@ -9,13 +9,13 @@ loop-byte-init c = block_start _
 pub loop-byte-preserved : goal.loop-byte-preserved
 loop-byte-preserved c = block_next c.loop-byte.invariant c.from-filled.ensures c.max-highest.ensures
 
-pub returns-then-highest-2 : goal.returns-then-highest-2
-returns-then-highest-2 c =
+pub returns-then-highest-gt2 : goal.returns-then-highest-gt2
+returns-then-highest-gt2 c =
     let f = c.loop-byte.invariant.big (omega arith) in
     scan_over c.args.block.now f.0 (omega (arith, f.1)) f.2
 
-pub returns-else-highest-2 : goal.returns-else-highest-2
-returns-else-highest-2 c =
+pub returns-else-highest-gt2 : goal.returns-else-highest-gt2
+returns-else-highest-gt2 c =
     let w = c.loop-byte.invariant in
     let few : c.loop-byte.highest ≤ 2 = omega arith in
     let all : c.loop-byte.byte-index ≡ length c.args.block.now = omega arith in
