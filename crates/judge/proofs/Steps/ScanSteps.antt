@@ -1,9 +1,8 @@
 -- The pass over the cells of a table: its blocks, and what they tell together.
-use Rattle.std.proofs.Common.{Ok, Err, ◌≡◌, ℕ, zero, suc, ◌+◌, ◌-◌, ◌<◌, ◌≤◌, Bool, true, false, not, max, eqb, ltb, List, ◌++◌, length, drop, drop-drop, length-append, length-drop, get_or-drop, sym, refl, ap, ◌∙◌, subst, ap₂, add-one, arith, ltb-false, ltb-true, le-ltb}
+use Rattle.std.proofs.Common.{Ok, Err, ◌≡◌, ℕ, zero, suc, ◌+◌, ◌-◌, ◌<◌, ◌≤◌, Bool, true, false, max, min, ltb, List, ◌++◌, length, drop, drop-drop, length-append, length-drop, get_or-drop, sym, refl, ap, ◌∙◌, subst, ap₂, add-one, arith, ltb-false, ltb-true, le-ltb}
 use native.Mathlib.Decide.{dec_lt}
 use lib.Seq.{drop-append_seam}
 use Rattle.std.proofs.lemmas.List.{get_or_append_left}
-use mir.Val.{bool_byte}
 use Rattle.sheet.specs.Bytes.{pick}
 use Rattle.sheet.proofs.Checks.Checks.{none_found, one_found}
 use Rattle.rows.specs.Tables.{byte_at, filled, count}
@@ -72,10 +71,10 @@ pub record BlockTo (l : List ℕ) (i highest n : ℕ) : Type 0 where
   pub big : 2 < highest → (j : ℕ) × (j < i) × (2 < byte_at l j)
 
 -- a byte of at most 2 is filled where it is not 0
-small_filled : (b : ℕ) → b ≤ 2 → bool_byte (not (eqb b 0)) ≡ one_if (filled b)
-small_filled zero h = refl
-small_filled (suc zero) h = refl
-small_filled (suc (suc zero)) h = refl
+small_filled : (b : ℕ) → b ≤ 2 → min b 1 ≡ one_if (filled b)
+small_filled zero h = omega arith
+small_filled (suc zero) h = omega arith
+small_filled (suc (suc zero)) h = omega arith
 small_filled (suc (suc (suc b))) h = absurd (omega arith)
 
 pub block_start : (l : List ℕ) → BlockTo l 0 0 0
@@ -87,11 +86,11 @@ block_start l = record {
 }
 
 -- a byte more may be the highest, and is filled where it is not 0
-module _ {l : List ℕ} {i n m highest : ℕ} (w : BlockTo l i highest n) (e : m ≡ bool_byte (not (eqb (byte_at l i) 0))) where
+module _ {l : List ℕ} {i n m highest : ℕ} (w : BlockTo l i highest n) (e : m ≡ min (byte_at l i) 1) where
   pub block_next : {h : ℕ} → h ≡ max highest (byte_at l i) → BlockTo l (i + 1) h (n + m)
   block_next {h} f =
       record {
-        few = omega (arith, w.few, one_more);
+        few = omega (arith, w.few, e);
         small = λ j k. elim (dec_lt j i) [
           | yes p ↦ omega (arith, w.small j p)
           | no p ↦ let same : i ≡ j = omega arith in subst (λ (x : ℕ). byte_at l x ≤ h) same (omega arith)
@@ -103,13 +102,6 @@ module _ {l : List ℕ} {i n m highest : ℕ} (w : BlockTo l i highest n) (e : m
         ];
       }
     where
-      one_more : m ≤ 1
-      one_more = go (not (eqb (byte_at l i) 0)) e
-        where
-          go : (b : Bool) → m ≡ bool_byte b → m ≤ 1
-          go true f = omega arith
-          go false f = omega arith
-
       counted_here : byte_at l i ≤ 2 → m ≡ one_if (filled (byte_at l i))
       counted_here h = e ∙ small_filled (byte_at l i) h
 
