@@ -9,7 +9,7 @@ use crate::parts::PartKind;
 pub(crate) fn is_readable(pattern: &[u8], entries: u8) -> bool
     ensures { result ≡ is_readable (reading_of entries pattern.now) }
 {
-    let [every, parts @ ..] = pattern else {
+    let Some((every, parts)) = pattern.split_first() else {
         return false;
     };
     if 1 < *every {
@@ -18,7 +18,7 @@ pub(crate) fn is_readable(pattern: &[u8], entries: u8) -> bool
     let mut rest = parts;
     let mut missing: usize = 1;
     // A while loop: a part takes one byte or two.
-    while let [op, behind @ ..] = rest {
+    while let Some((op, behind)) = rest.split_first() {
         if missing == 0 {
             return false;
         }
@@ -27,7 +27,7 @@ pub(crate) fn is_readable(pattern: &[u8], entries: u8) -> bool
         };
         match kind {
             PartKind::Entry => {
-                let [entry, behind @ ..] = behind else {
+                let Some((entry, behind)) = behind.split_first() else {
                     return false;
                 };
                 if entries <= *entry {

@@ -1,6 +1,5 @@
 -- `patterns::pattern_check::is_readable` meets its contract.
-use Rattle.std.proofs.Common.{◌≡◌, ℕ, ◌-◌, ◌≤◌, List, [], ◌∷◌, length, take, drop, slice_index_or, sym, ap, ◌∙◌, arith}
-use Rattle.std.proofs.lemmas.List.{take_all}
+use Rattle.std.proofs.Common.{sym, ap, ◌∙◌, arith}
 use Rattle.sheet.proofs.Steps.Kinds.{between_kinds}
 use Rattle.patterns.specs.Internal.PartKinds.{part_kind_number}
 use Rattle.patterns.specs.declared.parts.PartKind.TheVariants as Kind
@@ -9,53 +8,48 @@ use Rattle.patterns.proofs.Steps.Passes.{pass_start, action_first, pass_action, 
 use Rattle.patterns.proofs.Steps.Passes.{pass_left_over, pass_cut, pass_high_entry, pass_unknown, pass_end}
 use Rattle.patterns.proofs.pattern_check.is_readable.Goals as goal
 
--- a list that is not empty is its first byte and the others
-first : (l : List ℕ) → 1 ≤ length l → l ≡ slice_index_or l 0 0 ∷ take (length l - 1) (drop 1 l)
-first [] h = absurd (omega arith)
-first (b ∷ bs) h = ap (λ (s : List ℕ). b ∷ s) (sym (take_all (length (b ∷ bs) - 1) bs (omega arith)))
-
 pub returns-in_default : goal.returns-in_default
-returns-in_default c = sym (reading_empty _ _ (omega (arith, c.in_default.len_below)))
+returns-in_default c = sym (reading_empty _ _ (omega (arith, c.in_default.ensures.cases)))
 
 pub returns-then-every-gt1 : goal.returns-then-every-gt1
-returns-then-every-gt1 c = sym (reading_unknown _ (first _ c.in-len1-up.len_at_least) (omega arith))
+returns-then-every-gt1 c = sym (reading_unknown _ c.in-Some.ensures.cases.0 (omega arith))
 
-pub loop-rest-init : goal.loop-rest-init
-loop-rest-init c = pass_start _ (first _ c.in-len1-up.len_at_least) (omega arith)
+pub loop-op-init : goal.loop-op-init
+loop-op-init c = pass_start _ c.in-Some.ensures.cases.0 (omega arith)
 
 pub returns-then-missing-eq0 : goal.returns-then-missing-eq0
-returns-then-missing-eq0 c = pass_left_over c.loop-rest.invariant (first _ c.in-len1-up-rest.len_at_least) (omega arith)
+returns-then-missing-eq0 c = pass_left_over c.loop-op.invariant c.in-Some-split_first.ensures.cases.0 (omega arith)
 
 pub returns-in_default-try_from : goal.returns-in_default-try_from
 returns-in_default-try_from c =
-    pass_unknown c.loop-rest.invariant (first _ c.in-len1-up-rest.len_at_least) (omega (arith, c.in_default-try_from.ensures))
+    pass_unknown c.loop-op.invariant c.in-Some-split_first.ensures.cases.0 (omega (arith, c.in_default-try_from.ensures))
 
-pub returns-in_default-behind : goal.returns-in_default-behind
-returns-in_default-behind c =
-    pass_cut c.loop-rest.invariant (first _ c.in-len1-up-rest.len_at_least) (sym c.in-Ok.ensures ∙ ap part_kind_number c.in-Entry.is)
-    (omega (arith, c.in_default-behind.len_below))
+pub returns-in_default-split_first-2 : goal.returns-in_default-split_first-2
+returns-in_default-split_first-2 c =
+    pass_cut c.loop-op.invariant c.in-Some-split_first.ensures.cases.0 (sym c.in-Ok.ensures ∙ ap part_kind_number c.in-Entry.is)
+    c.in_default-split_first-2.ensures.cases
 
 pub returns-then-entries-entry : goal.returns-then-entries-entry
 returns-then-entries-entry c =
-    pass_high_entry c.loop-rest.invariant
-    (action_first (first _ c.in-len1-up-rest.len_at_least) (sym c.in-Ok.ensures ∙ ap part_kind_number c.in-Entry.is)
-    (first _ c.in-len1-up-behind.len_at_least)) (omega arith)
+    pass_high_entry c.loop-op.invariant
+    (action_first c.in-Some-split_first.ensures.cases.0 (sym c.in-Ok.ensures ∙ ap part_kind_number c.in-Entry.is)
+    c.in-Some-split_first-2.ensures.cases.0) (omega arith)
 
-pub loop-rest-preserved-in-Entry : goal.loop-rest-preserved-in-Entry
-loop-rest-preserved-in-Entry c =
-    pass_action c.loop-rest.invariant
-    (action_first (first _ c.in-len1-up-rest.len_at_least) (sym c.in-Ok.ensures ∙ ap part_kind_number c.in-Entry.is)
-    (first _ c.in-len1-up-behind.len_at_least)) (omega arith) (omega arith)
+pub loop-op-preserved-in-Entry : goal.loop-op-preserved-in-Entry
+loop-op-preserved-in-Entry c =
+    pass_action c.loop-op.invariant
+    (action_first c.in-Some-split_first.ensures.cases.0 (sym c.in-Ok.ensures ∙ ap part_kind_number c.in-Entry.is)
+    c.in-Some-split_first-2.ensures.cases.0) (omega arith) (omega arith)
 
-pub loop-rest-preserved-in-Sequence : goal.loop-rest-preserved-in-Sequence
-loop-rest-preserved-in-Sequence c =
+pub loop-op-preserved-in-Sequence : goal.loop-op-preserved-in-Sequence
+loop-op-preserved-in-Sequence c =
     let kind = between_kinds part_kind_number c.in-Ok.kind Kind.Sequence Kind.Choice _ c.in-Ok.ensures (omega arith) c.in-Sequence.is in
-    pass_two c.loop-rest.invariant (first _ c.in-len1-up-rest.len_at_least) kind.0 kind.1 (omega arith)
+    pass_two c.loop-op.invariant c.in-Some-split_first.ensures.cases.0 kind.0 kind.1 (omega arith)
 
-pub loop-rest-preserved : goal.loop-rest-preserved
-loop-rest-preserved c =
+pub loop-op-preserved : goal.loop-op-preserved
+loop-op-preserved c =
     let three = sym c.in-Ok.ensures ∙ ap part_kind_number c.in-Repetition.is in
-    pass_one c.loop-rest.invariant (rw three at (first _ c.in-len1-up-rest.len_at_least)) (omega arith)
+    pass_one c.loop-op.invariant (rw three at c.in-Some-split_first.ensures.cases.0) (omega arith)
 
 pub returns : goal.returns
-returns c = pass_end c.loop-rest.invariant (omega (arith, c.in_default-rest.len_below))
+returns c = pass_end c.loop-op.invariant (omega (arith, c.in_default-split_first.ensures.cases))
