@@ -11,6 +11,9 @@ mod lexer;
 pub mod parsing;
 mod pass;
 
+ghost use Rattle.std.specs.Prelude.{◌≡◌, Err};
+ghost use Rattle.action_line.specs.Parsing.{ParseReport, reported_parse};
+
 use sheet::{Numbered, Refusal};
 
 // The most entries that an action table may have, and the bytes of the longest body.
@@ -43,9 +46,6 @@ pub enum ParseError {
 
 // Its number is 32, 33, 34 or that of the sheet's refusal; it names no place.
 impl Numbered for ParseError {
-    ghost use Rattle.std.specs.Prelude.{Err};
-    ghost use Rattle.action_line.specs.Parsing.{reported_parse};
-
     ghost number = { λ e. (reported_parse (Err e)).number };
 
     ghost place = { λ e. (reported_parse (Err e)).place };
@@ -61,5 +61,21 @@ impl Numbered for ParseError {
 
     fn place(&self) -> u16 {
         0
+    }
+}
+
+// What the parser reports beside number and place: the length of the body that it wrote, 0 where it turned its input down.
+pub trait ParseAnswer {
+    ghost report: { Self → ParseReport };
+
+    fn length(&self) -> usize
+        ensures { result ≡ (report self.now).size };
+}
+
+impl ParseAnswer for Result<usize, ParseError> {
+    ghost report = { reported_parse };
+
+    fn length(&self) -> usize {
+        self.unwrap_or(0)
     }
 }

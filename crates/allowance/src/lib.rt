@@ -131,3 +131,27 @@ impl Bench {
         }
     }
 }
+
+// What a call gives of the benches, all of them 0 and false where it is turned down.
+pub trait GrantAnswer {
+    ghost use Rattle.std.specs.Prelude.{List};
+    ghost use Rattle.allowance.specs.declared.Bench.{Bench};
+
+    ghost given: { Self → List Bench };
+
+    fn benches(&self) -> [Bench; MOST_BENCHES]
+        ensures { result ≡ given self.now };
+}
+
+impl GrantAnswer for Result<[Bench; MOST_BENCHES], GrantError> {
+    ghost use Rattle.allowance.specs.Granting.{benches_in};
+
+    ghost given = { benches_in };
+
+    fn benches(&self) -> [Bench; MOST_BENCHES] {
+        match self {
+            Ok(benches) => *benches,
+            Err(_) => [Bench::default(); MOST_BENCHES],
+        }
+    }
+}

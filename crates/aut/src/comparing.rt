@@ -10,7 +10,7 @@ pub(crate) fn below(digits: &[u8], others: &[u8]) -> bool
     digits.len() < others.len() || digits.len() == others.len() && digits < others
 }
 
-// The number of the digits, or the bound where it is greater.
+// The number of the digits, or the bound where it is greater: no digit is looked at once the bound is reached.
 pub(crate) fn value(digits: &[u8], bound: usize) -> usize
     ensures { result ≡ min (decimal_value digits.now) bound }
 {
@@ -20,6 +20,9 @@ pub(crate) fn value(digits: &[u8], bound: usize) -> usize
             .saturating_mul(10)
             .saturating_add(usize::from(digit.saturating_sub(b'0')))
             .min(bound);
+        if value == bound {
+            break;
+        }
     }
     value
 }

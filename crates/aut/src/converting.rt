@@ -5,6 +5,8 @@ ghost use Rattle.aut.specs.Internal.Answering.{checked_of};
 
 use crate::ConvertError;
 use crate::comparing::value;
+use crate::keys::Keys;
+use crate::labels::Labels;
 use crate::lines::{Heading, read_heading};
 use crate::pass::{Gathered, Pass, pass_over};
 use crate::writing::write_body;
@@ -46,7 +48,11 @@ pub fn convert(text: &[u8], out: &mut [u8]) -> Result<usize, ConvertError>
         return Err(ConvertError::Malformed);
     };
     let states = value(first.states, MOST_STATES + 1);
-    let mut gathered = Gathered::new();
+    // Put together here, and not by a function of its own, which would copy all of it.
+    let mut gathered = Gathered {
+        labels: Labels::new(),
+        keys: Keys::new(),
+    };
     let Some(pass) = pass_over(lines, first.states, states <= MOST_STATES, &mut gathered) else {
         return Err(ConvertError::Malformed);
     };

@@ -15,8 +15,8 @@ mod pass;
 mod scanning;
 mod writing;
 
-ghost use Rattle.std.specs.Prelude.{Err};
-ghost use Rattle.aut.specs.Converting.{reported_conversion};
+ghost use Rattle.std.specs.Prelude.{◌≡◌, Err};
+ghost use Rattle.aut.specs.Converting.{ConversionReport, reported_conversion};
 
 use sheet::{Numbered, Refusal};
 
@@ -45,5 +45,21 @@ impl Numbered for ConvertError {
 
     fn place(&self) -> u16 {
         0
+    }
+}
+
+// What the converter reports beside number and place: the length of the body that it wrote, 0 where it turned its input down.
+pub trait ConvertAnswer {
+    ghost report: { Self → ConversionReport };
+
+    fn length(&self) -> usize
+        ensures { result ≡ (report self.now).size };
+}
+
+impl ConvertAnswer for Result<usize, ConvertError> {
+    ghost report = { reported_conversion };
+
+    fn length(&self) -> usize {
+        self.unwrap_or(0)
     }
 }

@@ -26,16 +26,6 @@ pub(crate) struct Gathered<'t> {
 }
 
 impl<'t> Gathered<'t> {
-    pub(crate) fn new() -> Self
-        ensures labels { result.labels ≡ [] }
-        ensures keys { result.keys ≡ [] }
-    {
-        Gathered {
-            labels: Labels::new(),
-            keys: Keys::new(),
-        }
-    }
-
     // They are as few as a plan may have.
     pub(crate) fn is_within_limits(&self) -> bool
         ensures { result ≡ within self.now }

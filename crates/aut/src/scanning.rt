@@ -10,14 +10,20 @@ ghost use Rattle.aut.specs.Internal.Pieces.{rest_of, NumeralRead};
 pub(crate) fn after_byte(text: &[u8], b: u8) -> Option<&[u8]>
     ensures { rest_of result ≡ after_byte b (rest text.now) }
 {
-    text.strip_prefix(&[b])
+    match text {
+        [first, rest @ ..] if *first == b => Some(rest),
+        _ => None,
+    }
 }
 
 // A space, or nothing.
 pub(crate) fn after_space(text: &[u8]) -> &[u8]
     ensures { rest result.now ≡ after_space (rest text.now) }
 {
-    text.strip_prefix(b" ").unwrap_or(text)
+    match text {
+        [b' ', rest @ ..] => rest,
+        _ => text,
+    }
 }
 
 // How many digits stand at the front.

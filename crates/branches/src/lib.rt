@@ -12,8 +12,8 @@ pub mod proposing;
 mod tagging;
 
 ghost use Rattle.std.specs.Prelude.{◌≡◌, Err};
-ghost use Rattle.branches.specs.Proposing.{reported_proposal};
-ghost use Rattle.branches.specs.Committing.{reported_commit, stopped_by};
+ghost use Rattle.branches.specs.Proposing.{ProposalReport, reported_proposal};
+ghost use Rattle.branches.specs.Committing.{CommitReport, reported_commit, stopped_by};
 ghost use Rattle.branches.specs.declared.ProposeError.TheVariants as Proposing;
 ghost use Rattle.branches.specs.declared.CommitError.TheVariants.{Refused};
 
@@ -62,6 +62,22 @@ impl Numbered for ProposeError {
     }
 }
 
+// What propose reports beside number and place: the proposal, all 0 where it was refused.
+pub trait ProposeAnswer {
+    ghost report: { Self → ProposalReport };
+
+    fn proposal(&self) -> Proposal
+        ensures { result ≡ (report self.now).proposal };
+}
+
+impl ProposeAnswer for Result<Proposal, ProposeError> {
+    ghost report = { reported_proposal };
+
+    fn proposal(&self) -> Proposal {
+        self.unwrap_or_default()
+    }
+}
+
 // Why no sheet is written: the plan does not take the transition, the proposal is not the fresh one, or a refusal, that of a short output among them.
 #[derive(Clone, Copy, Debug, PartialEq, Eq)]
 pub enum CommitError {
@@ -107,5 +123,21 @@ impl Numbered for CommitError {
             CommitError::BranchUnfit | CommitError::ProposalDiffers => 0,
             CommitError::Refused(x) => x.place(),
         }
+    }
+}
+
+// What commit reports beside number and place: the length of the new sheet, 0 where none was written.
+pub trait CommitAnswer {
+    ghost report: { Self → CommitReport };
+
+    fn length(&self) -> usize
+        ensures { result ≡ (report self.now).size };
+}
+
+impl CommitAnswer for Result<usize, CommitError> {
+    ghost report = { reported_commit };
+
+    fn length(&self) -> usize {
+        self.unwrap_or(0)
     }
 }

@@ -16,6 +16,10 @@ pub mod table;
 pub mod turns;
 
 ghost use Rattle.std.specs.Prelude.{◌≡◌};
+ghost use Rattle.judge.specs.Querying.{QueryReport, reported_query};
+ghost use Rattle.judge.specs.InTurn.{InTurnReport, reported_in_turn};
+ghost use Rattle.judge.specs.Counting.{CountReport, reported_count};
+ghost use Rattle.judge.specs.Auditing.{AuditReport, reported_audit};
 
 use graph::MOST_STATES;
 use sheet::{Numbered, Refusal};
@@ -80,5 +84,83 @@ impl Numbered for QueryError {
             QueryError::WrongCount => 0,
             QueryError::Refused(x) => x.place(),
         }
+    }
+}
+
+// What a query reports: the verdict and the visits, false and 0 where it was refused.
+pub trait QueryAnswer {
+    ghost report: { Self → QueryReport };
+
+    fn verdict(&self) -> bool
+        ensures { result ≡ (report self.now).verdict };
+
+    fn visits(&self) -> usize
+        ensures { result ≡ (report self.now).visits };
+}
+
+impl QueryAnswer for Result<Judged, QueryError> {
+    ghost report = { reported_query };
+
+    fn verdict(&self) -> bool {
+        self.map_or(false, |judged| judged.verdict)
+    }
+
+    fn visits(&self) -> usize {
+        self.map_or(0, |judged| judged.visits)
+    }
+}
+
+// What queries in turn report: how many states passed and the visits, 0 and 0 where they were refused.
+pub trait InTurnAnswer {
+    ghost report: { Self → InTurnReport };
+
+    fn passed(&self) -> usize
+        ensures { result ≡ (report self.now).passed };
+
+    fn visits(&self) -> usize
+        ensures { result ≡ (report self.now).visits };
+}
+
+impl InTurnAnswer for Result<JudgedInTurn, QueryError> {
+    ghost report = { reported_in_turn };
+
+    fn passed(&self) -> usize {
+        self.map_or(0, |in_turn| in_turn.passed)
+    }
+
+    fn visits(&self) -> usize {
+        self.map_or(0, |in_turn| in_turn.visits)
+    }
+}
+
+// What reading the count of a table reports: the count, 0 where it was refused.
+pub trait CountAnswer {
+    ghost report: { Self → CountReport };
+
+    fn stored(&self) -> u32
+        ensures { result ≡ (report self.now).stored };
+}
+
+impl CountAnswer for Result<u32, Refusal> {
+    ghost report = { reported_count };
+
+    fn stored(&self) -> u32 {
+        self.unwrap_or(0)
+    }
+}
+
+// What the audit of a filled table reports: yes or no, no where it was refused.
+pub trait AuditAnswer {
+    ghost report: { Self → AuditReport };
+
+    fn answer(&self) -> bool
+        ensures { result ≡ (report self.now).answer };
+}
+
+impl AuditAnswer for Result<bool, Refusal> {
+    ghost report = { reported_audit };
+
+    fn answer(&self) -> bool {
+        self.unwrap_or(false)
     }
 }

@@ -10,20 +10,33 @@ use sheet::Refusal;
 // As many as a byte can count, in whole steps of 32.
 const BLOCK: usize = 224;
 
+fn scan_bytes(bytes: &[u8]) -> Result<u8, Refusal>
+    requires { length bytes.now < 256 }
+    ensures { result ≡ scan_of bytes.now }
+{
+    let mut highest: u8 = 0;
+    let mut filled: u8 = 0;
+    for byte in bytes {
+        highest = highest.max(*byte);
+        let one = (*byte).min(1);
+        filled += one;
+    }
+    if highest > 2 {
+        Err(Refusal::TableByte)
+    } else {
+        Ok(filled)
+    }
+}
+
+// A block of the whole length goes apart, so that the loop over it has a length that the compiler knows.
 fn scan_block(block: &[u8]) -> Result<u8, Refusal>
     requires { length block.now < 256 }
     ensures { result ≡ scan_of block.now }
 {
-    let mut over = false;
-    let mut filled: u8 = 0;
-    for byte in block {
-        over |= *byte > 2;
-        filled += u8::from(*byte != 0);
-    }
-    if over {
-        Err(Refusal::TableByte)
+    if block.len() == BLOCK {
+        scan_bytes(&block[..BLOCK])
     } else {
-        Ok(filled)
+        scan_bytes(block)
     }
 }
 

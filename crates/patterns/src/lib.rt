@@ -12,6 +12,10 @@ mod putting;
 mod second_parts;
 pub mod translating;
 
+ghost use Rattle.std.specs.Prelude.{◌≡◌, Err};
+ghost use Rattle.patterns.specs.Translating.{TranslationReport, reported_translation};
+ghost use Rattle.patterns.specs.declared.TranslateError.TheVariants.{TooLarge, Refused};
+
 use sheet::{Numbered, Refusal};
 
 // The most nodes and binders that a rule has, the bytes of the longest rule body, and those of the longest pattern that becomes one.
@@ -39,9 +43,6 @@ pub enum TranslateError {
 }
 
 impl From<Oversize> for TranslateError {
-    ghost use Rattle.std.specs.Prelude.{◌≡◌};
-    ghost use Rattle.patterns.specs.declared.TranslateError.TheVariants.{TooLarge};
-
     ghost from_gives = { λ _ e. e ≡ TooLarge };
 
     fn from(_x: Oversize) -> TranslateError {
@@ -50,9 +51,6 @@ impl From<Oversize> for TranslateError {
 }
 
 impl From<Refusal> for TranslateError {
-    ghost use Rattle.std.specs.Prelude.{◌≡◌};
-    ghost use Rattle.patterns.specs.declared.TranslateError.TheVariants.{Refused};
-
     ghost from_gives = { λ x e. e ≡ Refused x };
 
     fn from(x: Refusal) -> TranslateError {
@@ -62,9 +60,6 @@ impl From<Refusal> for TranslateError {
 
 // Its number is 30, 31 or that of the refusal; a refusal alone names a place.
 impl Numbered for TranslateError {
-    ghost use Rattle.std.specs.Prelude.{Err};
-    ghost use Rattle.patterns.specs.Translating.{reported_translation};
-
     ghost number = { λ e. (reported_translation (Err e)).number };
 
     ghost place = { λ e. (reported_translation (Err e)).place };
@@ -82,5 +77,21 @@ impl Numbered for TranslateError {
             TranslateError::Refused(x) => x.place(),
             _ => 0,
         }
+    }
+}
+
+// What the translation reports beside number and place: the length of the rule body that it wrote, 0 where it turned its input down.
+pub trait TranslateAnswer {
+    ghost report: { Self → TranslationReport };
+
+    fn length(&self) -> usize
+        ensures { result ≡ (report self.now).size };
+}
+
+impl TranslateAnswer for Result<usize, TranslateError> {
+    ghost report = { reported_translation };
+
+    fn length(&self) -> usize {
+        self.unwrap_or(0)
     }
 }

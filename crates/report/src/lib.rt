@@ -6,7 +6,7 @@ mod line;
 pub mod reporting;
 
 ghost use Rattle.std.specs.Prelude.{◌≡◌, Err};
-ghost use Rattle.report.specs.Reporting.{reported_text};
+ghost use Rattle.report.specs.Reporting.{TextReport, reported_text};
 ghost use Rattle.report.specs.declared.ReportError.TheVariants.{Refused};
 
 use sheet::{Numbered, Refusal};
@@ -49,6 +49,22 @@ impl Numbered for ReportError {
             ReportError::TooManyQueries => 0,
             ReportError::Refused(x) => x.place(),
         }
+    }
+}
+
+// What a report says of itself beside number and place: the length of its text, 0 where it was turned down.
+pub trait ReportAnswer {
+    ghost report: { Self → TextReport };
+
+    fn length(&self) -> usize
+        ensures { result ≡ (report self.now).size };
+}
+
+impl ReportAnswer for Result<usize, ReportError> {
+    ghost report = { reported_text };
+
+    fn length(&self) -> usize {
+        self.unwrap_or(0)
     }
 }
 

@@ -119,6 +119,9 @@ impl Numbered for Refusal {
     }
 }
 
+// The number of an accepted input.
+const ACCEPTED: u8 = 0;
+
 // An accepted input has number 0 and place 0, a refused one those of the error.
 impl<T, E: Numbered> Numbered for Result<T, E> {
     ghost number = { answer_number E.number };
@@ -127,7 +130,7 @@ impl<T, E: Numbered> Numbered for Result<T, E> {
 
     fn number(&self) -> u8 {
         match self {
-            Ok(_) => 0,
+            Ok(_) => ACCEPTED,
             Err(e) => e.number(),
         }
     }

@@ -1,14 +1,14 @@
 // Request 16: one allowance of visits for several benches.
-use crate::connection::{Connection, Stop};
+use crate::connection::{Buffers, Connection, Stop};
 use allowance::Bench;
 use sheet::Numbered;
 
-pub(crate) fn answer(connection: &mut Connection) -> Result<(), Stop> {
-    let sheet = connection.read_blob()?;
-    let states = connection.read_blob()?;
+pub(crate) fn answer(connection: &mut Connection, buffers: &mut Buffers) -> Result<(), Stop> {
+    let sheet = connection.read_blob(&mut buffers.first)?;
+    let states = connection.read_blob(&mut buffers.second)?;
     let visits = connection.read_u32()?;
-    let mut tables = connection.read_blob()?;
-    let granted = allowance::granting::grant(&sheet, &states, visits, &mut tables);
+    let tables = connection.read_blob(&mut buffers.third)?;
+    let granted = allowance::granting::grant(sheet, states, visits, tables);
     println!(connection.output; "allowance {} {}", granted.number(), granted.place())?;
     if let Ok(benches) = granted {
         // The first benches are those of the states.
@@ -23,5 +23,5 @@ pub(crate) fn answer(connection: &mut Connection) -> Result<(), Stop> {
             println!(connection.output; "bench {need} {grant} {short} {verdict} {visits}")?;
         }
     }
-    connection.write_bytes("table", &tables)
+    connection.write_bytes("table", tables)
 }

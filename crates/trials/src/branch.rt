@@ -1,13 +1,7 @@
 // Requests 12 and 13: a branch is proposed for a sheet, and added to one by a proposal.
-use crate::connection::{Connection, Stop};
-use branches::Proposal;
+use crate::connection::{Buffers, Connection, Stop};
+use branches::{CommitAnswer, Proposal, ProposeAnswer};
 use sheet::{Action, Numbered, State, Transition};
-
-const NO_PROPOSAL: Proposal = Proposal {
-    insertion: 0,
-    length: 0,
-    tag: 0,
-};
 
 // A transition: from, action, to.
 fn read_branch(connection: &mut Connection) -> Result<Transition, Stop> {
@@ -27,15 +21,18 @@ fn read_proposal(connection: &mut Connection) -> Result<Proposal, Stop> {
     })
 }
 
-pub(crate) fn answer_propose(connection: &mut Connection) -> Result<(), Stop> {
-    let sheet = connection.read_blob()?;
+pub(crate) fn answer_propose(
+    connection: &mut Connection,
+    buffers: &mut Buffers,
+) -> Result<(), Stop> {
+    let sheet = connection.read_blob(&mut buffers.first)?;
     let branch = read_branch(connection)?;
-    let proposed = branches::proposing::propose(&sheet, branch);
+    let proposed = branches::proposing::propose(sheet, branch);
     let Proposal {
         insertion,
         length,
         tag,
-    } = proposed.unwrap_or(NO_PROPOSAL);
+    } = proposed.proposal();
     println!(connection.output;
         "propose {} {} {insertion} {length} {tag}",
         proposed.number(),
@@ -44,12 +41,16 @@ pub(crate) fn answer_propose(connection: &mut Connection) -> Result<(), Stop> {
     Ok(())
 }
 
-pub(crate) fn answer_commit(connection: &mut Connection) -> Result<(), Stop> {
-    let sheet = connection.read_blob()?;
+pub(crate) fn answer_commit(
+    connection: &mut Connection,
+    buffers: &mut Buffers,
+) -> Result<(), Stop> {
+    let sheet = connection.read_blob(&mut buffers.first)?;
     let branch = read_branch(connection)?;
     let proposal = read_proposal(connection)?;
-    let mut out = connection.read_buffer()?;
-    let length = branches::committing::commit(&sheet, branch, proposal, &mut out);
-    connection.write_answer("commit", length)?;
-    connection.write_bytes("out", &out)
+    let out = connection.read_buffer(&mut buffers.second)?;
+    let committed = branches::committing::commit(sheet, branch, proposal, out);
+    connection.write_word("commit")?;
+    connection.write_answer(&committed, committed.length())?;
+    connection.write_bytes("out", out)
 }

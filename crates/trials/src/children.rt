@@ -3,6 +3,7 @@ use crate::connection::{Connection, Stop};
 
 pub(crate) fn answer(connection: &mut Connection) -> Result<(), Stop> {
     let kind = connection.read_u8()?;
-    println!(connection.output; "children {}", sheet::kinds::child_count(kind))?;
+    connection.write_word("children")?;
+    println!(connection.output; " {}", sheet::kinds::child_count(kind))?;
     Ok(())
 }

@@ -1,9 +1,27 @@
 // What a request's operands are read from, low byte first, and its lines are written to.
+use crate::digits;
 use sheet::Numbered;
-use std::alloc::{AllocError, Global};
 use std::fmt::Display;
 use std::io;
-use std::io::{Stdin, Stdout};
+use std::io::{Print, Stdin, Stdout};
+
+// Room for a blob or a buffer of any length that 16 bits allow.
+pub(crate) const BUFFER_LENGTH: usize = 65536;
+
+pub(crate) type Buffer = [u8; BUFFER_LENGTH];
+
+// Where the blobs and buffers of a request lie. They hold what an earlier request left: a request lends the calls only bytes that it has
+// read or filled.
+#[derive(Drop)]
+pub(crate) struct Buffers {
+    pub(crate) first: Buffer,
+    pub(crate) second: Buffer,
+    pub(crate) third: Buffer,
+    pub(crate) fourth: Buffer,
+}
+
+// Bytes are written as two digits each, so many bytes at once.
+const CHUNK: usize = 2048;
 
 // Why no further request is answered.
 #[derive(Debug, Drop)]
@@ -12,7 +30,7 @@ pub(crate) enum Stop {
     InputEnded,
     // The byte is the number of no request.
     NoSuchRequest,
-    // A read, a write or an allocation failed.
+    // A read or a write failed.
     Failed(io::Error),
 }
 
@@ -22,17 +40,10 @@ impl From<io::Error> for Stop {
     }
 }
 
-impl From<AllocError> for Stop {
-    fn from(error: AllocError) -> Stop {
-        Stop::Failed(io::Error::from(error))
-    }
-}
-
 #[derive(Clone, Copy)]
 pub(crate) struct Connection {
     input: Stdin,
     pub(crate) output: Stdout,
-    alloc: Global,
 }
 
 impl Connection {
@@ -40,7 +51,6 @@ impl Connection {
         Connection {
             input: rt.stdin(),
             output: rt.stdout(),
-            alloc: rt.alloc(),
         }
     }
 
@@ -73,38 +83,56 @@ impl Connection {
         Ok(u32::from_le_bytes(bytes))
     }
 
-    // A blob: its length, and its bytes.
-    pub(crate) fn read_blob(&mut self) -> Result<Vec<u8>, Stop> {
+    // A blob: its length, and its bytes, which come to lie at the start of the buffer.
+    pub(crate) fn read_blob<'b>(&mut self, buffer: &'b mut Buffer) -> Result<&'b mut [u8], Stop> {
         let length = self.read_u16()?;
-        let mut bytes = vec![in self.alloc; 0; usize::from(length)]?;
-        self.fill(&mut bytes)?;
+        let bytes = &mut buffer[..usize::from(length)];
+        self.fill(bytes)?;
         Ok(bytes)
     }
 
-    // A buffer: its length, and the byte that fills it.
-    pub(crate) fn read_buffer(&mut self) -> Result<Vec<u8>, Stop> {
+    // A buffer: its length, and the byte that fills so much of it.
+    pub(crate) fn read_buffer<'b>(&mut self, buffer: &'b mut Buffer) -> Result<&'b mut [u8], Stop> {
         let length = self.read_u16()?;
         let byte = self.read_u8()?;
-        Ok(vec![in self.alloc; byte; usize::from(length)]?)
+        let bytes = &mut buffer[..usize::from(length)];
+        bytes.fill(byte);
+        Ok(bytes)
     }
 
-    // A line of a word, the number and the place of an answer, and what the call gives: 0 or false where it turned its input down.
-    pub(crate) fn write_answer<T: Display + Default + Drop, E: Numbered + Drop>(
+    // The word that begins a line.
+    pub(crate) fn write_word(&self, word: &str) -> Result<(), Stop> {
+        self.output.write_all(word.as_bytes())?;
+        Ok(())
+    }
+
+    // The rest of a line: the number and the place of an answer, and what it reports besides.
+    pub(crate) fn write_answer<A: Numbered, T: Display + Drop>(
         &self,
-        word: &str,
-        answer: Result<T, E>,
+        answer: &A,
+        reported: T,
     ) -> Result<(), Stop> {
         let number = answer.number();
         let place = answer.place();
-        let given = answer.unwrap_or_default();
-        println!(self.output; "{word} {number} {place} {given}")?;
+        println!(self.output; " {number} {place} {reported}")?;
         Ok(())
     }
 
     // A line of a word and the bytes of a buffer, two digits each.
     pub(crate) fn write_bytes(&self, word: &str, bytes: &[u8]) -> Result<(), Stop> {
-        let digits = hex::encode(self.alloc, bytes)?;
-        println!(self.output; "{word} {digits}")?;
+        print!(self.output; "{word} ")?;
+        self.write_digits(bytes)?;
+        self.output.write_all(b"\n")?;
+        Ok(())
+    }
+
+    fn write_digits(&self, bytes: &[u8]) -> Result<(), Stop> {
+        let mut digits = [0u8; 2 * CHUNK];
+        for piece in bytes.chunks(CHUNK) {
+            let spelled = &mut digits[..2 * piece.len()];
+            digits::spell(piece, spelled);
+            self.output.write_all(spelled)?;
+        }
         Ok(())
     }
 }

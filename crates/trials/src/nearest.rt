@@ -1,24 +1,20 @@
 // Request 17: the closest state that breaks the rule.
-use crate::connection::{Connection, Stop};
-use closest::Closest;
+use crate::connection::{Buffers, Connection, Stop};
+use closest::ClosestAnswer;
 use sheet::Numbered;
 
-const NOT_SEARCHED: Closest = Closest {
-    first: None,
-    visits: 0,
-};
-
-pub(crate) fn answer(connection: &mut Connection) -> Result<(), Stop> {
-    let sheet = connection.read_blob()?;
-    let mut table = connection.read_blob()?;
-    let answer = closest::finding::find_closest(&sheet, &mut table);
-    let Closest { first, visits } = answer.unwrap_or(NOT_SEARCHED);
-    let (state, steps) = first.map_or((0, 0), |failing| (failing.state.0, failing.steps));
+pub(crate) fn answer(connection: &mut Connection, buffers: &mut Buffers) -> Result<(), Stop> {
+    let sheet = connection.read_blob(&mut buffers.first)?;
+    let table = connection.read_blob(&mut buffers.second)?;
+    let answer = closest::finding::find_closest(sheet, table);
     println!(connection.output;
-        "closest {} {} {} {state} {steps} {visits}",
+        "closest {} {} {} {} {} {}",
         answer.number(),
         answer.place(),
-        first.is_some()
+        answer.found(),
+        answer.state().0,
+        answer.steps(),
+        answer.visits()
     )?;
-    connection.write_bytes("table", &table)
+    connection.write_bytes("table", table)
 }

@@ -1,12 +1,7 @@
 // Request 5: one query on a table as given.
-use crate::connection::{Connection, Stop};
-use judge::Judged;
+use crate::connection::{Buffers, Connection, Stop};
+use judge::QueryAnswer;
 use sheet::{Numbered, State};
-
-const NOT_JUDGED: Judged = Judged {
-    verdict: false,
-    visits: 0,
-};
 
 // Asks for the verdict at a state and writes the line of the answer.
 pub(crate) fn query(
@@ -15,20 +10,22 @@ pub(crate) fn query(
     state: State,
     table: &mut [u8],
 ) -> Result<(), Stop> {
+    connection.write_word("query")?;
     let answer = judge::querying::query(sheet, state, table);
-    let Judged { verdict, visits } = answer.unwrap_or(NOT_JUDGED);
     println!(connection.output;
-        "query {} {} {verdict} {visits}",
+        " {} {} {} {}",
         answer.number(),
-        answer.place()
+        answer.place(),
+        answer.verdict(),
+        answer.visits()
     )?;
     Ok(())
 }
 
-pub(crate) fn answer(connection: &mut Connection) -> Result<(), Stop> {
-    let sheet = connection.read_blob()?;
+pub(crate) fn answer(connection: &mut Connection, buffers: &mut Buffers) -> Result<(), Stop> {
+    let sheet = connection.read_blob(&mut buffers.first)?;
     let state = State(connection.read_u8()?);
-    let mut table = connection.read_blob()?;
-    query(connection, &sheet, state, &mut table)?;
-    connection.write_bytes("table", &table)
+    let table = connection.read_blob(&mut buffers.second)?;
+    query(connection, sheet, state, table)?;
+    connection.write_bytes("table", table)
 }

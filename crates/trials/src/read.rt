@@ -1,5 +1,5 @@
 // Request 1: a blob is read as a sheet.
-use crate::connection::{Connection, Stop};
+use crate::connection::{Buffers, Connection, Stop};
 use sheet::{Bodies, Numbered, Span};
 
 const NOWHERE: Span = Span {
@@ -13,16 +13,17 @@ const NO_BODIES: Bodies = Bodies {
     rule: NOWHERE,
 };
 
-pub(crate) fn answer(connection: &mut Connection) -> Result<(), Stop> {
-    let sheet = connection.read_blob()?;
-    let read = sheet::reader::read(&sheet);
+pub(crate) fn answer(connection: &mut Connection, buffers: &mut Buffers) -> Result<(), Stop> {
+    let sheet = connection.read_blob(&mut buffers.first)?;
+    connection.write_word("read")?;
+    let read = sheet::reader::read(sheet);
     let Bodies {
         plan,
         actions,
         rule,
     } = read.unwrap_or(NO_BODIES);
     println!(connection.output;
-        "read {} {} {} {} {} {} {} {}",
+        " {} {} {} {} {} {} {} {}",
         read.number(),
         read.place(),
         plan.offset,

@@ -1,13 +1,15 @@
 // Request 10: a list of queries is reported as text for the counter terminal.
-use crate::connection::{Connection, Stop};
+use crate::connection::{Buffers, Connection, Stop};
+use report::ReportAnswer;
 
-pub(crate) fn answer(connection: &mut Connection) -> Result<(), Stop> {
-    let sheet = connection.read_blob()?;
-    let states = connection.read_blob()?;
-    let mut table = connection.read_buffer()?;
-    let mut out = connection.read_buffer()?;
-    let length = report::reporting::report(&sheet, &states, &mut table, &mut out);
-    connection.write_answer("report", length)?;
-    connection.write_bytes("table", &table)?;
-    connection.write_bytes("out", &out)
+pub(crate) fn answer(connection: &mut Connection, buffers: &mut Buffers) -> Result<(), Stop> {
+    let sheet = connection.read_blob(&mut buffers.first)?;
+    let states = connection.read_blob(&mut buffers.second)?;
+    let table = connection.read_buffer(&mut buffers.third)?;
+    let out = connection.read_buffer(&mut buffers.fourth)?;
+    let reported = report::reporting::report(sheet, states, table, out);
+    connection.write_word("report")?;
+    connection.write_answer(&reported, reported.length())?;
+    connection.write_bytes("table", table)?;
+    connection.write_bytes("out", out)
 }

@@ -1,5 +1,5 @@
 // The requests, by their numbers (docs/TRIALS.md).
-use crate::connection::{Connection, Stop};
+use crate::connection::{Buffers, Connection, Stop};
 use crate::{
     allowed, audited, branch, children, convert, guard, line, list, nearest, pattern, query, read,
     recorded, refer, reports, write,
@@ -55,25 +55,29 @@ impl TryFrom<u8> for Request {
 
 impl Request {
     // Reads the operands, all of them before a line is written, makes the calls and writes their lines.
-    pub(crate) fn answer(self, connection: &mut Connection) -> Result<(), Stop> {
+    pub(crate) fn answer(
+        self,
+        connection: &mut Connection,
+        buffers: &mut Buffers,
+    ) -> Result<(), Stop> {
         match self {
-            Request::Read => read::answer(connection),
-            Request::Guard => guard::answer(connection),
-            Request::Refer => refer::answer(connection),
-            Request::List => list::answer(connection),
-            Request::Query => query::answer(connection),
-            Request::Write => write::answer(connection),
-            Request::Pattern => pattern::answer(connection),
+            Request::Read => read::answer(connection, buffers),
+            Request::Guard => guard::answer(connection, buffers),
+            Request::Refer => refer::answer(connection, buffers),
+            Request::List => list::answer(connection, buffers),
+            Request::Query => query::answer(connection, buffers),
+            Request::Write => write::answer(connection, buffers),
+            Request::Pattern => pattern::answer(connection, buffers),
             Request::Children => children::answer(connection),
-            Request::Line => line::answer(connection),
-            Request::Report => reports::answer(connection),
-            Request::Convert => convert::answer(connection),
-            Request::Propose => branch::answer_propose(connection),
-            Request::Commit => branch::answer_commit(connection),
-            Request::Recorded => recorded::answer(connection),
-            Request::Audited => audited::answer(connection),
-            Request::Allowed => allowed::answer(connection),
-            Request::Nearest => nearest::answer(connection),
+            Request::Line => line::answer(connection, buffers),
+            Request::Report => reports::answer(connection, buffers),
+            Request::Convert => convert::answer(connection, buffers),
+            Request::Propose => branch::answer_propose(connection, buffers),
+            Request::Commit => branch::answer_commit(connection, buffers),
+            Request::Recorded => recorded::answer(connection, buffers),
+            Request::Audited => audited::answer(connection, buffers),
+            Request::Allowed => allowed::answer(connection, buffers),
+            Request::Nearest => nearest::answer(connection, buffers),
         }
     }
 }

@@ -55,6 +55,10 @@ module _ (ds : List ℕ) (bound v i : ℕ) where
             ap (λ (x : ℕ). min x bound) (ap (λ (x : ℕ). decimal_from x (drop (i + 1) ds)) q ∙ sym t)
       ]
 
+  -- the bound is reached: what the digits left say is no less
+  pub value_full : v ≡ bound → v ≡ min (decimal_from v (drop i ds)) bound
+  value_full e = let l = value_least v (drop i ds) in e ∙ sym (min-eq_right (omega (arith, l, e)))
+
   pub value_end : length ds ≤ i → v ≤ bound → v ≡ min (decimal_from v (drop i ds)) bound
   unfolding decimal_from
   value_end h l = sym (ap (λ (s : List ℕ). min (decimal_from v s) bound) (drop_of_length-le ds h) ∙ min-eq_left l)

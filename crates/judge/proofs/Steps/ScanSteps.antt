@@ -1,9 +1,8 @@
 -- The pass over the cells of a table: its blocks, and what they tell together.
-use Rattle.std.proofs.Common.{Ok, Err, ◌≡◌, ℕ, zero, suc, ◌+◌, ◌-◌, ◌<◌, ◌≤◌, Bool, true, false, not, ◌||◌, eqb, ltb, List, ◌++◌, length, drop, drop-drop, length-append, length-drop, get_or-drop, sym, refl, ap, ◌∙◌, subst, ap₂, add-one, arith, ltb-false, ltb-true, le-ltb}
+use Rattle.std.proofs.Common.{Ok, Err, ◌≡◌, ℕ, zero, suc, ◌+◌, ◌-◌, ◌<◌, ◌≤◌, Bool, true, false, max, min, ltb, List, ◌++◌, length, drop, drop-drop, length-append, length-drop, get_or-drop, sym, refl, ap, ◌∙◌, subst, ap₂, add-one, arith, ltb-false, ltb-true, le-ltb}
 use native.Mathlib.Decide.{dec_lt}
 use lib.Seq.{drop-append_seam}
 use Rattle.std.proofs.lemmas.List.{get_or_append_left}
-use mir.Val.{bool_byte}
 use Rattle.sheet.specs.Bytes.{pick}
 use Rattle.sheet.proofs.Checks.Checks.{none_found, one_found}
 use Rattle.rows.specs.Tables.{byte_at, filled, count}
@@ -64,68 +63,50 @@ scan_over l i h g = go (bytes_right (length l) l) refl
 
 -- ---- one block
 
--- what is known of the bytes before a place: whether one is over 2, and how many are filled where none is
-pub record BlockTo (l : List ℕ) (i : ℕ) (over : Bool) (n : ℕ) : Type 0 where
+-- what is known of the bytes before a place: the highest of them, and how many are filled where none is over 2
+pub record BlockTo (l : List ℕ) (i highest n : ℕ) : Type 0 where
   pub few : n ≤ i
-  pub small : over ≡ false → (j : ℕ) → j < i → byte_at l j ≤ 2
-  pub counted : over ≡ false → n ≡ count i (λ j. filled (byte_at l j))
-  pub big : over ≡ true → (j : ℕ) × (j < i) × (2 < byte_at l j)
+  pub small : (j : ℕ) → j < i → byte_at l j ≤ highest
+  pub counted : highest ≤ 2 → n ≡ count i (λ j. filled (byte_at l j))
+  pub big : 2 < highest → (j : ℕ) × (j < i) × (2 < byte_at l j)
 
 -- a byte of at most 2 is filled where it is not 0
-small_filled : (b : ℕ) → b ≤ 2 → bool_byte (not (eqb b 0)) ≡ one_if (filled b)
-small_filled zero h = refl
-small_filled (suc zero) h = refl
-small_filled (suc (suc zero)) h = refl
+small_filled : (b : ℕ) → b ≤ 2 → min b 1 ≡ one_if (filled b)
+small_filled zero h = omega arith
+small_filled (suc zero) h = omega arith
+small_filled (suc (suc zero)) h = omega arith
 small_filled (suc (suc (suc b))) h = absurd (omega arith)
 
-pub block_start : (l : List ℕ) → BlockTo l 0 false 0
+pub block_start : (l : List ℕ) → BlockTo l 0 0 0
 block_start l = record {
   few = omega arith;
-  small = λ e j h. absurd (omega arith);
+  small = λ j h. absurd (omega arith);
   counted = λ e. sym (count_zero (λ j. filled (byte_at l j)));
-  big = λ e. absurd (cc);
+  big = λ e. absurd (omega arith);
 }
 
--- a byte more is over 2, or is filled where it is not 0
-module _ {l : List ℕ} {i n m : ℕ} {over : Bool} (w : BlockTo l i over n) (e : m ≡ bool_byte (not (eqb (byte_at l i) 0))) where
-  pub block_next : BlockTo l (i + 1) (over || ltb 2 (byte_at l i)) (n + m)
-  block_next = go over (ltb 2 (byte_at l i)) refl refl
+-- a byte more may be the highest, and is filled where it is not 0
+module _ {l : List ℕ} {i n m highest : ℕ} (w : BlockTo l i highest n) (e : m ≡ min (byte_at l i) 1) where
+  pub block_next : {h : ℕ} → h ≡ max highest (byte_at l i) → BlockTo l (i + 1) h (n + m)
+  block_next {h} f =
+      record {
+        few = omega (arith, w.few, e);
+        small = λ j k. elim (dec_lt j i) [
+          | yes p ↦ omega (arith, w.small j p)
+          | no p ↦ let same : i ≡ j = omega arith in subst (λ (x : ℕ). byte_at l x ≤ h) same (omega arith)
+        ];
+        counted = λ g. omega (arith, w.counted (omega arith), counted_here (omega arith), more (λ j. filled (byte_at l j)));
+        big = λ g. elim (dec_lt 2 (byte_at l i)) [
+          | yes p ↦ (i, omega arith, p)
+          | no p ↦ let b = w.big (omega arith) in (b.0, omega (arith, b.1), b.2)
+        ];
+      }
     where
-      one_more : m ≤ 1
-      one_more = go (not (eqb (byte_at l i) 0)) e
-        where
-          go : (b : Bool) → m ≡ bool_byte b → m ≤ 1
-          go true f = omega arith
-          go false f = omega arith
-
       counted_here : byte_at l i ≤ 2 → m ≡ one_if (filled (byte_at l i))
       counted_here h = e ∙ small_filled (byte_at l i) h
 
       more : (p : ℕ → Bool) → count (i + 1) p ≡ one_if (p i) + count i p
       more p = ap (λ (k : ℕ). count k p) (add-one i) ∙ count_suc i p
-
-      go : (a b : Bool) → over ≡ a → ltb 2 (byte_at l i) ≡ b → BlockTo l (i + 1) (a || b) (n + m)
-      go true b p q =
-          let f = w.big p in
-          record { few = omega (arith, w.few, one_more); small = λ e. absurd (cc); counted = λ e. absurd (cc); big = λ e. (f.0, omega arith, f.2) }
-      go false true p q =
-          record {
-            few = omega (arith, w.few, one_more);
-            small = λ e. absurd (cc);
-            counted = λ e. absurd (cc);
-            big = λ e. (i, omega arith, ltb-true 2 (byte_at l i) q);
-          }
-      go false false p q =
-          let here = ltb-false 2 (byte_at l i) q in
-          record {
-            few = omega (arith, w.few, one_more);
-            small = λ e j h. elim (dec_lt j i) [
-              | yes k ↦ w.small p j k
-              | no k ↦ let same : i ≡ j = omega arith in subst (λ (x : ℕ). byte_at l x ≤ 2) same here
-            ];
-            counted = λ e. omega (arith, w.counted p, counted_here here, more (λ j. filled (byte_at l j)));
-            big = λ e. absurd (cc);
-          }
 
 -- ---- the blocks
 

@@ -1,20 +1,17 @@
-use Rattle.std.proofs.Common.{◌≡◌, ℕ, length, ap, ◌∙◌, arith}
-use Rattle.rows.specs.Tables.{byte_at, filled, count}
-use Rattle.judge.proofs.Steps.ScanSteps.{scan_small, scan_over, block_start, block_next}
+-- `judge::scanning::scan_block` meets its contract: the bytes up to the whole length are the block.
+use Rattle.std.proofs.Common.{◌≡◌, List, ℕ, length, take, ap, ◌∙◌, sym, arith}
+use Rattle.std.proofs.lemmas.List.{take_all}
+use Rattle.judge.specs.Internal.Scanning.{scan_of}
 use Rattle.judge.proofs.scanning.scan_block.Goals as goal
 
-pub loop-byte-init : goal.loop-byte-init
-loop-byte-init c = block_start _
+whole : (l : List ℕ) → length l ≡ 224 → take 224 l ≡ l
+whole l e = take_all 224 l (omega arith)
 
-pub loop-byte-preserved : goal.loop-byte-preserved
-loop-byte-preserved c = block_next c.loop-byte.invariant c.from-filled.ensures
+pub slice_bounds-scan_bytes-end : goal.slice_bounds-scan_bytes-end
+slice_bounds-scan_bytes-end c = sym c.if-block-eq-BLOCK.true ∙ ap length (sym (whole c.args.block.now c.if-block-eq-BLOCK.true))
 
-pub returns-then-over : goal.returns-then-over
-returns-then-over c = let f = c.loop-byte.invariant.big c.if-over.true in scan_over c.args.block.now f.0 (omega (arith, f.1)) f.2
+pub scan_bytes-requires : goal.scan_bytes-requires
+scan_bytes-requires c = omega (arith, ap length (whole c.args.block.now c.if-block-eq-BLOCK.true))
 
-pub returns-else-over : goal.returns-else-over
-returns-else-over c =
-    let w = c.loop-byte.invariant in
-    let all : c.loop-byte.byte-index ≡ length c.args.block.now = omega arith in
-    scan_small c.args.block.now (λ i h. w.small c.if-over.false i (omega arith))
-    (w.counted c.if-over.false ∙ ap (λ (k : ℕ). count k (λ i. filled (byte_at c.args.block.now i))) all)
+pub returns-then-block-eq-BLOCK : goal.returns-then-block-eq-BLOCK
+returns-then-block-eq-BLOCK c = c.scan_bytes.ensures ∙ ap scan_of (whole c.args.block.now c.if-block-eq-BLOCK.true)

@@ -1,4 +1,4 @@
-use Rattle.std.proofs.Common.{◌∙◌, sym, ap, arith}
+use Rattle.std.proofs.Common.{◌∙◌, sym, ap}
 use Rattle.aut.specs.Plans.{label_number}
 use Rattle.aut.proofs.Steps.HeldLabels.{number_found, hint_right}
 use Rattle.aut.proofs.labels.Labels.find.Goals as goal
